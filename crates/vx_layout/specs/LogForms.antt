@@ -1,0 +1,69 @@
+-- How the intent log is spelled, and what an image with a log reads as.
+use Rattle.std.specs.Prelude.{◌≡◌, ◌==◌, ◌<◌, ◌≤◌, ◌+◌, ◌-◌, ◌*◌, ◌%◌, ℕ, Bool, IsTrue, List, [], ◌∷◌, ◌++◌, length, map, get_or, replicate, if◌then◌else◌}
+use Rattle.std.specs.Int.{w32, w64, to_le_bytes}
+use Rattle.std.specs.List.{flat_map}
+
+-- a sector's number and the bytes that it is to hold
+abbrev pub AfterImage : Type 0
+AfterImage = ℕ × List ℕ
+
+-- the log's n sectors start at sector 4, and position p of the log stands there
+abbrev pub log_at : ℕ → ℕ → ℕ
+log_at n p = 4 + p % n
+
+-- VXLOGHD1
+abbrev pub head_magic : List ℕ
+head_magic = 86 ∷ 88 ∷ 76 ∷ 79 ∷ 71 ∷ 72 ∷ 68 ∷ 49 ∷ []
+
+-- VXRC
+abbrev pub record_magic : List ℕ
+record_magic = 86 ∷ 88 ∷ 82 ∷ 67 ∷ []
+
+-- sector 2: where the log's live part begins and ends
+unfoldable pub head_sector : ℕ → ℕ → ℕ → List ℕ
+head_sector serial tail head = head_magic ++ to_le_bytes w64 serial ++ to_le_bytes w64 tail ++ to_le_bytes w64 head ++ replicate 480 0
+
+-- the sector before a record's after-images: how many there are, where this stands, and their homes
+unfoldable pub descriptor : ℕ → List ℕ → List ℕ
+descriptor position homes =
+    record_magic ++ to_le_bytes w32 (length homes) ++ to_le_bytes w64 position ++ flat_map (to_le_bytes w32) homes ++ replicate (496 - 4 * length homes) 0
+
+-- a record as it stands in the log
+abbrev pub record_sectors : ℕ → List AfterImage → List (List ℕ)
+record_sectors position record_ = descriptor position (map (λ e. e.0) record_) ∷ map (λ e. e.1) record_
+
+abbrev pub log_sectors : ℕ → List (List AfterImage) → List (List ℕ)
+log_sectors position [] = []
+log_sectors position (r ∷ rs) = record_sectors position r ++ log_sectors (position + (1 + length r)) rs
+
+-- what a sector that holds x holds when a record's after-images are laid over it
+abbrev pub overlay : List AfterImage → ℕ → List ℕ → List ℕ
+overlay [] s x = x
+overlay (e ∷ es) s x = overlay es s (if e.0 == s then e.1 else x)
+
+abbrev pub overlay_all : List (List AfterImage) → ℕ → List ℕ → List ℕ
+overlay_all [] s x = x
+overlay_all (r ∷ rs) s x = overlay_all rs s (overlay r s x)
+
+-- What the log says, which sectors hold metadata, and what they stand for with the log's records laid over them.
+pub record LogState : Type 0 where
+  pub serial : ℕ
+  pub tail : ℕ
+  pub head : ℕ
+  pub records : List (List AfterImage)
+  pub is_metadata : ℕ → Bool
+  pub contents : ℕ → List ℕ
+
+abbrev pub head_of : LogState → List ℕ
+head_of r = head_sector r.serial r.tail r.head
+
+abbrev pub live : LogState → List (List ℕ)
+live r = log_sectors r.tail r.records
+
+-- the image is read so, where the log has n sectors: its head sector, its records, and its metadata with the records laid over it
+pub record ReadsAs (n : ℕ) (r : LogState) (image : ℕ → List ℕ) : Type 0 where
+  pub head_is : image 2 ≡ head_of r
+  pub ends : r.head ≡ r.tail + length (live r)
+  pub fits : r.head ≤ r.tail + n
+  pub whole : (i : ℕ) → i < length (live r) → image (log_at n (r.tail + i)) ≡ get_or (live r) i []
+  pub metadata : (s : ℕ) → IsTrue (r.is_metadata s) → overlay_all r.records s (image s) ≡ r.contents s
