@@ -1,3 +1,4 @@
 pub mod Fits
 pub mod Faults
+pub mod Paths
 pub mod Streams

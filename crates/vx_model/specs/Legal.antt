@@ -1,0 +1,123 @@
+-- Legal histories.
+use Rattle.std.specs.Prelude.{◌≡◌, ◌⊎◌, ℕ, ◌+◌, ◌≤◌, Bool, true, false, not, ◌&&◌, nat_eq, nat_lt, List, [], ◌∷◌, ◌++◌, Option, Some, None, if◌then◌else◌}
+use Rattle.std.specs.List.{list_any}
+use Rattle.std.specs.Ordering.{nat_cmp}
+use Rattle.std.specs.FinMap as map
+use Rattle.vx_base.specs.declared.call.Call.{Call}
+use Rattle.vx_base.specs.declared.event.Event.{Event}
+use Rattle.vx_base.specs.declared.event.Event.TheVariants as event
+use Rattle.vx_base.specs.declared.refusal.Refusal.{Refusal}
+use Rattle.vx_base.specs.declared.refusal.Refusal.TheVariants as no
+use Rattle.vx_base.specs.declared.reply.Reply.{Reply}
+use Rattle.vx_base.specs.declared.reply.Reply.TheVariants as say
+use Rattle.vx_model.specs.State.{State, Done}
+use Rattle.vx_model.specs.Step.{step}
+
+-- a call that stands in the history and has no Ret yet
+pub record Waiting : Type 0 where
+  pub session : ℕ
+  pub line : ℕ
+  pub reply : Reply
+
+-- what the events so far leave
+pub record World : Type 0 where
+  pub at : ℕ
+  pub next : ℕ
+  pub state : State
+  pub waiting : map.FinMap nat_cmp Waiting
+  pub unmounted : Bool
+
+-- where a history begins, with so many operations done on the device
+abbrev pub opening : ℕ → State → World
+opening at s = record { at = at; next = 0; state = s; waiting = map.empty; unmounted = false }
+
+-- a refusal that may come in place of any reply
+abbrev pub is_any_time : Refusal → Bool
+is_any_time no.NoMemory = true
+is_any_time no.ReadFault = true
+is_any_time no.WriteFault = true
+is_any_time (no.Disabled faults) = true
+is_any_time _ = false
+
+abbrev pub is_fault : Reply → Bool
+is_fault (say.Refused why) = is_any_time why
+is_fault _ = false
+
+-- the session waits for no call of a line
+abbrev pub is_idle : World → ℕ → Bool
+is_idle w session = not (list_any (λ (v : Waiting). nat_eq v.session session && nat_lt 0 v.line) (map.values w.waiting))
+
+-- it is there, and the fact holds of it
+abbrev pub IfThere : {X : Type 0} → Option X → (X → Type 0) → Type 0
+IfThere None P = ⊥
+IfThere (Some x) P = P x
+
+pub record DoAllowed (w : World) (session line : ℕ) (c : Call) (reply : Reply) : Type 0 where
+  pub idle : is_idle w session ≡ true
+  pub reply_is : IfThere (step w.state session c) (λ done. (reply ≡ done.reply) ⊎ (is_fault reply ≡ true))
+
+-- the answer of a call is the reply of its Do, or a device fault
+abbrev pub RetAllowed : Option Waiting → Reply → Type 0
+RetAllowed None answer = ⊥
+RetAllowed (Some v) answer = (answer ≡ v.reply) ⊎ (is_fault answer ≡ true)
+
+-- the number of device operations at an event
+abbrev pub at_of : Event → ℕ
+at_of (event.Do at session line c reply) = at
+at_of (event.Ret at place answer) = at
+at_of (event.Settle at ino size) = at
+at_of (event.Release at upto) = at
+at_of (event.MoveTake at place ino) = at
+at_of (event.MoveSwitch at place ino from to) = at
+at_of (event.MoveGive at place ino cause) = at
+at_of (event.Bar at place units) = at
+at_of (event.Resized at place units) = at
+at_of (event.Unbar at place cause) = at
+at_of (event.Stopped at) = at
+at_of (event.Unmounted at) = at
+
+-- whether the event may come, apart from its moment; the kinds that are not built yet may not
+abbrev pub Comes : World → Event → Type 0
+Comes w (event.Do at session line c reply) = DoAllowed w session line c reply
+Comes w (event.Ret at place answer) = RetAllowed (map.get w.waiting place) answer
+Comes w (event.Unmounted at) = map.len w.waiting ≡ 0
+Comes w _ = ⊥
+
+abbrev pub state_after_step : State → Option Done → State
+state_after_step s None = s
+state_after_step s (Some done) = done.state
+
+-- the state after a Do
+abbrev pub state_after : State → ℕ → Call → Reply → State
+state_after s session c reply = if is_fault reply then s else state_after_step s (step s session c)
+
+abbrev pub after : World → Event → World
+after w (event.Do at session line c reply) = record w {
+  at = at;
+  next = w.next + 1;
+  state = state_after w.state session c reply;
+  waiting = map.insert w.waiting w.next (record { session = session; line = line; reply = reply });
+}
+after w (event.Ret at place answer) = record w { at = at; next = w.next + 1; waiting = map.remove w.waiting place }
+after w (event.Unmounted at) = record w { at = at; next = w.next + 1; unmounted = true }
+after w e = record w { at = at_of e; next = w.next + 1 }
+
+abbrev pub after_all : World → List Event → World
+after_all w [] = w
+after_all w (e ∷ es) = after_all (after w e) es
+
+pub record Allowed (w : World) (e : Event) : Type 0 where
+  pub later : w.at ≤ at_of e
+  pub mounted : w.unmounted ≡ false
+  pub comes : Comes w e
+
+abbrev pub Legal : World → List Event → Type 0
+Legal w [] = Unit {0}
+Legal w (e ∷ es) = Allowed w e × Legal (after w e) es
+
+-- ---- what a history says of its sessions
+
+-- the call of a script line of the session
+abbrev pub line_of : ℕ → Event → Option Call
+line_of s (event.Do at session line c reply) = if nat_eq session s && nat_lt 0 line then Some c else None
+line_of s _ = None

@@ -1,0 +1,11 @@
+pub mod Outcome
+pub mod Tree
+pub mod Codes
+pub mod Paths
+pub mod Walks
+pub mod Layout
+pub mod State
+pub mod Making
+pub mod Naming
+pub mod Step
+pub mod Legal

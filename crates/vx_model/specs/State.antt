@@ -1,0 +1,29 @@
+-- What a mount stands for at one moment, and what a call leaves.
+use Rattle.std.specs.Prelude.{ℕ, Result, Ok, Err}
+use Rattle.std.specs.FinMap as map
+use Rattle.vx_base.specs.declared.reply.Reply.{Reply}
+use Rattle.vx_base.specs.declared.reply.Reply.TheVariants as say
+use Rattle.vx_model.specs.Outcome.{Maybe}
+use Rattle.vx_model.specs.Tree.{Tree, empty_root}
+use Rattle.vx_model.specs.Layout.{Layout}
+
+pub record State : Type 0 where
+  pub tree : Tree
+  pub layout : Layout
+
+-- what a call leaves and answers
+pub record Done : Type 0 where
+  pub state : State
+  pub reply : Reply
+
+-- a call that is refused leaves everything as it was
+abbrev pub settled : State → Maybe Done → Done
+settled s (Ok done) = done
+settled s (Err why) = record { state = s; reply = say.Refused why }
+
+-- a new file system with a log of so many blocks, and the most blocks that a directory may have
+abbrev pub fresh : ℕ → ℕ → State
+fresh log_blocks directory_limit = record {
+  tree = empty_root;
+  layout = record { log_blocks = log_blocks; units = 1; directory_limit = directory_limit; directories = map.empty };
+}

@@ -1,0 +1,4 @@
+pub mod Slots
+pub mod Nodes
+pub mod States
+pub mod Metadata
