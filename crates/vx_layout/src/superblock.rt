@@ -1,0 +1,109 @@
+//! The superblock, and the places that it determines.
+ghost use Rattle.std.specs.Prelude.{◌≡◌, ℕ, ◌+◌, ◌*◌, ◌<◌, ◌≤◌, ◌≢◌};
+ghost use Rattle.vx_layout.specs.Places.{bits, slots, outside, unit_block, bitmap_sector, inode_sector, inode_offset, sectors_of, is_data, place_of};
+ghost use Rattle.vx_layout.specs.Supers.{super_bytes, volume_of, IsSuper};
+
+use crate::sheet::Sheet;
+use vx_base::{Block, Ino, SectorNo};
+
+/// Where the log starts, in blocks.
+const LOG_START: u32 = 2;
+
+/// Blocks in an allocation unit.
+const UNIT_BLOCKS: u32 = 4096;
+
+/// Inodes in an allocation unit.
+const UNIT_INODES: u32 = 128;
+
+/// Sectors in a block.
+const PER_BLOCK: u32 = 2;
+
+/// What sector 0 says: the sizes of the log and of the volume, and whether it was left clean.
+#[derive(Clone, Copy, Debug)]
+pub struct Super {
+    /// 256 to 2048.
+    pub log_blocks: u32,
+    /// Allocation units, 1 to 64.
+    pub units: u32,
+    pub clean: bool,
+}
+
+impl Super {
+    /// The one spelling of the superblock.
+    pub fn write(&self) -> [u8; 512]
+        requires { IsSuper self.now }
+        ensures { result ≡ super_bytes self.now }
+    {
+        let mut sheet = Sheet::<512>::new();
+        sheet.put(b"VXPROF01");
+        sheet.put_u32(1);
+        sheet.put_u32(1024);
+        sheet.put_u32(self.log_blocks);
+        sheet.put_u32(self.units);
+        sheet.put_u32(LOG_START);
+        sheet.put_u8(self.clean as u8);
+        sheet.finish()
+    }
+
+    /// The first block of a unit, which holds the unit's bitmap.
+    pub fn unit_start(&self, u: u32) -> Block
+        requires is { IsSuper self.now }
+        requires there { u < self.now.units }
+        ensures { result ≡ unit_block (volume_of self.now) u }
+    {
+        Block::new(self.start_of(u))
+    }
+
+    /// The sector of a unit's bitmap.
+    pub fn bitmap_place(&self, u: u32) -> SectorNo
+        requires is { IsSuper self.now }
+        requires there { u < self.now.units }
+        ensures { result ≡ bitmap_sector (volume_of self.now) u }
+    {
+        SectorNo::new(PER_BLOCK * self.start_of(u))
+    }
+
+    /// The sector of an inode, and where in that sector it begins, 0 or 256.
+    pub fn inode_place(&self, ino: Ino) -> (SectorNo, u32)
+        requires is { IsSuper self.now }
+        requires there { ino < 128 * self.now.units }
+        ensures sector { result.0 ≡ inode_sector (volume_of self.now) ino }
+        ensures offset { result.1 ≡ inode_offset ino }
+    {
+        let number = ino.get();
+        let slot = number % UNIT_INODES;
+        let start = PER_BLOCK * self.start_of(number / UNIT_INODES);
+        (
+            SectorNo::new(start + PER_BLOCK + slot / 2),
+            256 * (number % 2),
+        )
+    }
+
+    /// Whether a block is one of those that hold files and directories.
+    #[tactic(auto, unfolding(crate::specs::Places::is_data))]
+    pub fn is_data(&self, b: Block) -> bool
+        requires { IsSuper self.now }
+        ensures { result ≡ is_data (volume_of self.now) b }
+    {
+        let number = b.get();
+        let first = LOG_START + self.log_blocks;
+        number >= first
+            && (number - first) / UNIT_BLOCKS < self.units
+            && (number - first) % UNIT_BLOCKS >= 33
+    }
+
+    fn start_of(&self, u: u32) -> u32
+        requires is { IsSuper self.now }
+        requires there { u < self.now.units }
+        ensures { result ≡ unit_block (volume_of self.now) u }
+    {
+        LOG_START + self.log_blocks + UNIT_BLOCKS * u
+    }
+}
+
+/// The sectors that a device needs for a log and units of these sizes.
+pub fn sectors_needed(log_blocks: u32, units: u32) -> u64
+    ensures { result ≡ 2 * (2 + log_blocks + 4096 * units) }
+{
+    2 * (2 + log_blocks as u64 + 4096 * units as u64)
+}
