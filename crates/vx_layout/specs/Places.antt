@@ -1,5 +1,5 @@
 -- What each sector of a volume is there for, and where each thing stands.
-use Rattle.std.specs.Prelude.{◌≡◌, ◌≢◌, ℕ, ◌+◌, ◌-◌, ◌*◌, ◌/◌, ◌%◌, ◌<◌, ◌≤◌, Bool, ◌==◌, ◌&&◌, nat_lt, nat_le, if◌then◌else◌, List, take, drop}
+use Rattle.std.specs.Prelude.{◌≡◌, ◌⊎◌, ℕ, ◌+◌, ◌-◌, ◌*◌, ◌/◌, ◌%◌, ◌<◌, ◌≤◌, Bool, true, false, IsTrue, ◌==◌, ◌&&◌, nat_lt, nat_le, if◌then◌else◌, List, take, drop}
 
 -- bytes in a block, the block where unit 0 starts, the number of units
 pub record Volume : Type 0 where
@@ -67,13 +67,29 @@ place_of v s =
     else (if nat_le v.units ((s - v.first * per_block v) / (4096 * per_block v)) then outside
     else place_in_unit v ((s - v.first * per_block v) / (4096 * per_block v)) ((s - v.first * per_block v) % (4096 * per_block v)))
 
--- s is the one sector that a place names
-abbrev pub IsSectorOf : Volume → Place → ℕ → Type 0
-IsSectorOf v outside s = Unit {0}
-IsSectorOf v blank s = Unit {0}
-IsSectorOf v (bits u) s = s ≡ bitmap_sector v u
-IsSectorOf v (slots k) s = s ≡ pair_sector v k
-IsSectorOf v (part b index) s = s ≡ block_sector (per_block v) b + index
+-- a block has a whole number of sectors, and 64 sectors are a whole number of blocks
+pub record IsVolume (v : Volume) : Type 0 where
+  pub some : 0 < per_block v
+  pub even : 64 % per_block v ≡ 0
+
+-- the sector belongs to a unit
+pub record IsInside (v : Volume) (s : ℕ) : Type 0 where
+  pub from : v.first * per_block v ≤ s
+  pub to : s < sectors_of v
+
+-- what a place says of the sectors that have it: for all but two it is the one such sector
+abbrev pub IsPlaceOf : Volume → ℕ → Place → Type 0
+IsPlaceOf v s outside = (s < v.first * per_block v) ⊎ (sectors_of v ≤ s)
+IsPlaceOf v s blank = IsInside v s
+IsPlaceOf v s (bits u) = (u < v.units) × (s ≡ bitmap_sector v u)
+IsPlaceOf v s (slots k) = (k < 64 * v.units) × (s ≡ pair_sector v k)
+IsPlaceOf v s (part b index) = IsTrue (is_data v b) × (index < per_block v) × (s ≡ block_sector (per_block v) b + index)
+
+-- a bitmap, two inodes or a part of a data block
+abbrev pub is_named : Place → Bool
+is_named outside = false
+is_named blank = false
+is_named _ = true
 
 -- the index-th 512 bytes of a block
 unfoldable pub sector_part : ℕ → List ℕ → List ℕ

@@ -1,10 +1,10 @@
 //! Where everything stands on the device, and how it is spelled in bytes (docs/LAYOUT.md).
 #![tactic(auto)]
 
-mod places;
 mod sheet;
 mod superblock;
+mod volume;
 
-pub use places::block_sector;
+pub use volume::{block_sector, places, super_places};
 pub use sheet::Sheet;
 pub use superblock::{sectors_needed, Super};

@@ -1,6 +1,6 @@
 //! The superblock, and the places that it determines.
-ghost use Rattle.std.specs.Prelude.{◌≡◌, ℕ, ◌+◌, ◌*◌, ◌<◌, ◌≤◌, ◌≢◌};
-ghost use Rattle.vx_layout.specs.Places.{bits, slots, outside, unit_block, bitmap_sector, inode_sector, inode_offset, sectors_of, is_data, place_of};
+ghost use Rattle.std.specs.Prelude.{◌≡◌, ℕ, ◌+◌, ◌*◌, ◌<◌};
+ghost use Rattle.vx_layout.specs.Places.{unit_block, bitmap_sector, inode_sector, inode_offset, is_data};
 ghost use Rattle.vx_layout.specs.Supers.{super_bytes, volume_of, IsSuper};
 
 use crate::sheet::Sheet;
