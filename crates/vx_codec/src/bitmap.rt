@@ -38,3 +38,19 @@ fn weighed(bit: bool, weight: u8) -> u8
 {
     if bit { weight } else { 0 }
 }
+
+#[cfg(test)]
+mod tests {
+    use super::*;
+
+    #[test]
+    fn first_34_blocks(rt: HostRuntime) {
+        let mut used = [false; 4096];
+        for j in 0..34 {
+            used[j] = true;
+        }
+        let sector = write_bits(&used);
+        assert!(rt; sector.starts_with(&[0xff, 0xff, 0xff, 0xff, 3]));
+        assert!(rt; sector.iter().skip(5).all(|byte| *byte == 0));
+    }
+}

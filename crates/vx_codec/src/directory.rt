@@ -45,3 +45,28 @@ fn used_by(entries: &[DirEntry]) -> usize
     }
     used
 }
+
+#[cfg(test)]
+mod tests {
+    use super::*;
+    use crate::part::sector_part;
+    use std::test::Fail;
+    use vx_base::{Ino, Name};
+
+    #[test]
+    #[tactic(auto, unfolding(vx_layout::specs::Dirs::entry_bytes))]
+    fn block_with_one_name(rt: HostRuntime) -> Result<(), Fail> {
+        let alloc = rt.alloc();
+        let name = Name::from_slice(alloc, b"a")?;
+        let entries = [DirEntry {
+            ino: Ino::new(3),
+            name,
+        }];
+        let block = write_dir::<1024>(&entries);
+        let sector = sector_part(&block, 0);
+        assert!(rt; sector.starts_with(&[1, 0, 6, 0, 3, 0, 0, 0, 1, 0x61]));
+        assert!(rt; sector.iter().skip(10).all(|byte| *byte == 0));
+        assert!(rt; sector_part(&block, 1).iter().all(|byte| *byte == 0));
+        Ok(())
+    }
+}

@@ -112,3 +112,52 @@ fn number_of_file_kind(kind: FileKind) -> u8
         FileKind::Directory => 2,
     }
 }
+
+#[cfg(test)]
+mod tests {
+    use super::*;
+    use vx_base::{ExtAttrs, Inode, Page};
+
+    fn value(kind: FileKind, mode: u16, size: u64, block: Option<Extent>) -> InodeValue {
+        let attrs = ExtAttrs {
+            fixed: 0,
+            reserve: 0,
+            flags: 0,
+        };
+        InodeValue {
+            inode: Inode {
+                kind,
+                mode,
+                nlink: 1,
+                size,
+                attrs,
+            },
+            maps: 0,
+            extents: if block.is_some() { 1 } else { 0 },
+            first: [block, None, None, None, None, None],
+            map: None,
+        }
+    }
+
+    #[test]
+    fn sector_of_a_directory_and_a_file(rt: HostRuntime) {
+        let extent = Extent {
+            page: Page::new(0),
+            start: Block::new(547),
+            len: 1,
+            kind: Kind::Data,
+        };
+        let directory = value(FileKind::Directory, 0o755, 1024, Some(extent));
+        let file = value(FileKind::File, 0o644, 0, None);
+        let want = [
+            2, 0, 0xed, 1, 1, 0, 0, 0, 0, 4, 0, 0, 0, 0, 0, 0, 0, 0, 0, 0, 0, 0, 0, 0, 1, 0, 0, 0,
+            0, 0, 0, 0, 0, 0, 0, 0, 0x23, 2, 0, 0, 1, 0, 0, 0, 0, 0, 0, 0,
+        ];
+        let sector = inode_sector(Some(&directory), Some(&file));
+        assert!(rt; sector.starts_with(&want));
+        assert!(rt; sector.iter().take(256).skip(48).all(|byte| *byte == 0));
+        assert_eq!(rt; &sector[256..], write_inode(&file).as_slice());
+        assert!(rt; write_inode(&directory).starts_with(&want));
+        assert!(rt; write_inode(&file).starts_with(&[1, 0, 0xa4, 1, 1, 0]));
+    }
+}

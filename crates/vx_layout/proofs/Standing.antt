@@ -140,18 +140,18 @@ place_is v s is =
     let o : ℕ = s - v.first * per_block v in
     choice v s _ _ (nat_lt s (v.first * per_block v)) (λ a. inl (ltb-true _ _ a))
     (λ a.
-      let low : v.first * per_block v ≤ s = ltb-false _ _ a in
-      let whole : bitmap_sector v ((s - v.first * per_block v) / (4096 * per_block v)) + (s - v.first * per_block v) % (4096 * per_block v) ≡ s =
-          omega (arith, div-add-mod' (s - v.first * per_block v) (4096 * per_block v)) in
-      let u : ℕ = (s - v.first * per_block v) / (4096 * per_block v) in
-      let rest : ℕ = (s - v.first * per_block v) % (4096 * per_block v) in
-      choice v s _ _ (nat_le v.units ((s - v.first * per_block v) / (4096 * per_block v)))
-      (λ b. let past : v.units ≤ (s - v.first * per_block v) / (4096 * per_block v) = leb-true _ _ b in
-            let high : v.units * (4096 * per_block v) ≤ (s - v.first * per_block v) / (4096 * per_block v) * (4096 * per_block v) = mul-le-mul_right (4096 * per_block v) past in
-            inr (omega arith))
-      (λ b.
-        let P : ℕ → Type 0 = λ n. IsPlaceOf v n (place_in_unit v ((s - v.first * per_block v) / (4096 * per_block v)) ((s - v.first * per_block v) % (4096 * per_block v))) in
-        subst P whole (in_unit v ((s - v.first * per_block v) / (4096 * per_block v)) ((s - v.first * per_block v) % (4096 * per_block v)) is (leb-false _ _ b) (mod_below (s - v.first * per_block v) (4096 * per_block v) wide))))
+    let low : v.first * per_block v ≤ s = ltb-false _ _ a in
+    let whole : bitmap_sector v ((s - v.first * per_block v) / (4096 * per_block v)) + (s - v.first * per_block v) % (4096 * per_block v) ≡ s =
+    omega (arith, div-add-mod' (s - v.first * per_block v) (4096 * per_block v)) in
+    let u : ℕ = (s - v.first * per_block v) / (4096 * per_block v) in
+    let rest : ℕ = (s - v.first * per_block v) % (4096 * per_block v) in
+    choice v s _ _ (nat_le v.units ((s - v.first * per_block v) / (4096 * per_block v)))
+    (λ b. let past : v.units ≤ (s - v.first * per_block v) / (4096 * per_block v) = leb-true _ _ b in
+    let high : v.units * (4096 * per_block v) ≤ (s - v.first * per_block v) / (4096 * per_block v) * (4096 * per_block v) = mul-le-mul_right (4096 * per_block v) past in
+    inr (omega arith))
+    (λ b.
+    let P : ℕ → Type 0 = λ n. IsPlaceOf v n (place_in_unit v ((s - v.first * per_block v) / (4096 * per_block v)) ((s - v.first * per_block v) % (4096 * per_block v))) in
+    subst P whole (in_unit v ((s - v.first * per_block v) / (4096 * per_block v)) ((s - v.first * per_block v) % (4096 * per_block v)) is (leb-false _ _ b) (mod_below (s - v.first * per_block v) (4096 * per_block v) wide))))
 
 same_sector : (v : Volume) (s t : ℕ) (p : Place) → IsTrue (is_named p) → IsPlaceOf v s p → IsPlaceOf v t p → s ≡ t
 same_sector v s t outside named a b = absurd cc

@@ -5,6 +5,6 @@ mod sheet;
 mod superblock;
 mod volume;
 
-pub use volume::{block_sector, places, super_places};
 pub use sheet::Sheet;
-pub use superblock::{sectors_needed, Super};
+pub use superblock::{Super, sectors_needed};
+pub use volume::{block_sector, places, super_places};

@@ -107,3 +107,63 @@ pub fn sectors_needed(log_blocks: u32, units: u32) -> u64
 {
     2 * (2 + log_blocks as u64 + 4096 * units as u64)
 }
+
+#[cfg(test)]
+mod tests {
+    use super::*;
+    use crate::volume::block_sector;
+
+    const SUPER: Super = Super {
+        log_blocks: 512,
+        units: 1,
+        clean: false,
+    };
+
+    #[test]
+    fn sizes(rt: HostRuntime) {
+        assert_eq!(rt; sectors_needed(512, 1), 9220);
+        assert_eq!(rt; sectors_needed(512, 2), 17412);
+    }
+
+    #[test]
+    fn places_of_unit_0(rt: HostRuntime) {
+        assert_eq!(rt; SUPER.unit_start(0).get(), 514);
+        assert_eq!(rt; SUPER.bitmap_place(0).get(), 1028);
+        assert_eq!(rt; block_sector(Block::new(547)).get(), 1094);
+        let (sector, offset) = SUPER.inode_place(Ino::new(2));
+        assert_eq!(rt; sector.get(), 1031);
+        assert_eq!(rt; offset, 0);
+        let (sector, offset) = SUPER.inode_place(Ino::new(3));
+        assert_eq!(rt; sector.get(), 1031);
+        assert_eq!(rt; offset, 256);
+    }
+
+    #[test]
+    fn data_blocks(rt: HostRuntime) {
+        for (block, want) in [
+            (0, false),
+            (546, false),
+            (547, true),
+            (4609, true),
+            (4610, false),
+        ] {
+            assert_eq!(rt; SUPER.is_data(Block::new(block)), want, "at {block}");
+        }
+    }
+
+    #[test]
+    fn bytes(rt: HostRuntime) {
+        let want = [
+            0x56, 0x58, 0x50, 0x52, 0x4f, 0x46, 0x30, 0x31, 1, 0, 0, 0, 0, 4, 0, 0, 0, 2, 0, 0, 1,
+            0, 0, 0, 2, 0, 0, 0,
+        ];
+        let sector = SUPER.write();
+        assert_eq!(rt; &sector[..28], want.as_slice());
+        assert_eq!(rt; sector[28], 0);
+        let clean = Super {
+            clean: true,
+            ..SUPER
+        };
+        assert_eq!(rt; clean.write()[28], 1);
+    }
+}

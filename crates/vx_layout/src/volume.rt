@@ -28,13 +28,11 @@ pub fn places()
     // Two sectors for one thing are one sector.
     ensures distinct { (v : Volume) (s t : ℕ) → IsVolume v → IsTrue (is_named (place_of v s)) → place_of v s ≡ place_of v t → s ≡ t }
     ensures inside { (v : Volume) (s : ℕ) → IsVolume v → place_of v s ≢ outside → IsInside v s }
-{
-}
+{}
 
 /// The volume of a superblock stands behind the log's 2 L sectors and within the sectors that a device needs.
 pub fn super_places()
     ensures volume { (v : Super) → IsVolume (volume_of v) }
     ensures past_log { (v : Super) (s : ℕ) → place_of (volume_of v) s ≢ outside → 4 + 2 * v.log_blocks ≤ s }
     ensures on_device { (v : Super) (s : ℕ) → place_of (volume_of v) s ≢ outside → s < 2 * (2 + v.log_blocks + 4096 * v.units) }
-{
-}
+{}

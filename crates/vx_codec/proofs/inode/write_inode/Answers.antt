@@ -11,7 +11,7 @@ unfolding inode_bytes
 returns c =
     let v = c.args.value.now in
     let text : c.put_u32.new.self ≡ inode_head v ++ flat_map place_bytes v.first ++ to_le_bytes w32 (unwrap_or v.map 0) =
-        rw (c.put_u32.ensures, c.put-2.ensures, c.put.ensures, c.new-sheet.ensures, c.head_text.ensures, c.extents_text.ensures, c.number_of_block.ensures) refl in
+    rw (c.put_u32.ensures, c.put-2.ensures, c.put.ensures, c.new-sheet.ensures, c.head_text.ensures, c.extents_text.ensures, c.number_of_block.ensures) refl in
     let long : length c.extents_text.result ≡ 96 = search rules in
     let six : length (flat_map place_bytes v.first) ≡ 96 = ap length (sym c.extents_text.ensures) ∙ long in
     let whole = length-text v six in
