@@ -1,6 +1,7 @@
 //! Directory blocks.
-ghost use Rattle.std.specs.Prelude.{◌≡◌, ◌+◌, ◌≤◌, ◌<◌, ◌^◌, ◌++◌, length, All};
-ghost use Rattle.vx_layout.specs.Dirs.{entry_bytes, entries_bytes, dir_bytes};
+ghost use Rattle.std.specs.Prelude.{◌≡◌, ℕ, List, Some, ◌+◌, ◌≤◌, ◌<◌, ◌^◌, ◌++◌, length, All};
+ghost use Rattle.vx_base.specs.declared.inode.DirEntry.{DirEntry};
+ghost use Rattle.vx_layout.specs.Dirs.{entry_bytes, entries_bytes, dir_bytes, dir_at, IsDir};
 
 use vx_base::DirEntry;
 use vx_layout::Sheet;
@@ -20,6 +21,13 @@ pub fn write_dir<const N: usize>(entries: &[DirEntry]) -> [u8; N]
         put_entry(&mut sheet, entry);
     }
     sheet.finish()
+}
+
+/// What is spelled as a directory block is read again, and so each list of entries has one spelling.
+pub fn dir_spelling()
+    ensures again { (size : ℕ) (es : List DirEntry) → IsDir size es → dir_at (dir_bytes size es) ≡ Some es }
+    ensures unique { (size : ℕ) (xs ys : List DirEntry) → IsDir size xs → IsDir size ys → dir_bytes size xs ≡ dir_bytes size ys → xs ≡ ys }
+{
 }
 
 #[tactic(auto, unfolding(vx_layout::specs::Dirs::entry_bytes))]

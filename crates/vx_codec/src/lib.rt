@@ -7,6 +7,6 @@ mod inode;
 mod part;
 
 pub use bitmap::write_bits;
-pub use directory::write_dir;
+pub use directory::{dir_spelling, write_dir};
 pub use inode::{inode_sector, write_inode};
 pub use part::sector_part;

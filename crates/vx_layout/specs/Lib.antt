@@ -1,4 +1,5 @@
 pub mod LogForms
+pub mod Fields
 pub mod Places
 pub mod Supers
 pub mod Inodes

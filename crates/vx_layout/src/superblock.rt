@@ -1,8 +1,9 @@
 //! The superblock, and the places that it determines.
-ghost use Rattle.std.specs.Prelude.{◌≡◌, ℕ, ◌+◌, ◌*◌, ◌<◌};
+ghost use Rattle.std.specs.Prelude.{◌≡◌, ℕ, ◌+◌, ◌*◌, ◌<◌, IfOk, Ok, length};
 ghost use Rattle.vx_layout.specs.Places.{unit_block, bitmap_sector, inode_sector, inode_offset, is_data};
-ghost use Rattle.vx_layout.specs.Supers.{super_bytes, volume_of, IsSuper};
+ghost use Rattle.vx_layout.specs.Supers.{super_bytes, super_at, volume_of, IsSuper};
 
+use crate::fields::{is_zero_from, u32_at};
 use crate::sheet::Sheet;
 use vx_base::{Block, Ino, SectorNo};
 
@@ -28,7 +29,25 @@ pub struct Super {
     pub clean: bool,
 }
 
+/// The number of the first bad field, 1 to 8: magic, layout, block size, log blocks, units, log start, clean, rest.
+#[derive(Clone, Copy, Debug)]
+pub struct BadSuper {
+    pub field: u32,
+}
+
 impl Super {
+    /// What sector 0 says.
+    pub fn read(sector: &[u8; 512]) -> Result<Super, BadSuper>
+        // What is read is spelled so.
+        ensures found { IfOk result (λ v. IsSuper v × (sector.now ≡ super_bytes v)) }
+        // What is spelled so is read.
+        ensures only { (v : Super) → IsSuper v → sector.now ≡ super_bytes v → result ≡ Ok v }
+        // Else the first bad field is named.
+        ensures exact { result ≡ super_at sector.now }
+    {
+        Self::parsed(sector)
+    }
+
     /// The one spelling of the superblock.
     pub fn write(&self) -> [u8; 512]
         requires { IsSuper self.now }
@@ -90,6 +109,43 @@ impl Super {
         number >= first
             && (number - first) / UNIT_BLOCKS < self.units
             && (number - first) % UNIT_BLOCKS >= 33
+    }
+
+    fn parsed(bytes: &[u8]) -> Result<Super, BadSuper>
+        requires { length bytes.now ≡ 512 }
+        ensures { result ≡ super_at bytes.now }
+    {
+        if &bytes[..8] != b"VXPROF01".as_slice() {
+            return Err(BadSuper { field: 1 });
+        }
+        if u32_at(bytes, 8) != 1 {
+            return Err(BadSuper { field: 2 });
+        }
+        if u32_at(bytes, 12) != 1024 {
+            return Err(BadSuper { field: 3 });
+        }
+        let log_blocks = u32_at(bytes, 16);
+        if log_blocks < 256 || log_blocks > 2048 {
+            return Err(BadSuper { field: 4 });
+        }
+        let units = u32_at(bytes, 20);
+        if units < 1 || units > 64 {
+            return Err(BadSuper { field: 5 });
+        }
+        if u32_at(bytes, 24) != LOG_START {
+            return Err(BadSuper { field: 6 });
+        }
+        if bytes[28] > 1 {
+            return Err(BadSuper { field: 7 });
+        }
+        if !is_zero_from(bytes, 29) {
+            return Err(BadSuper { field: 8 });
+        }
+        Ok(Super {
+            log_blocks,
+            units,
+            clean: bytes[28] == 1,
+        })
     }
 
     fn start_of(&self, u: u32) -> u32
@@ -165,5 +221,17 @@ mod tests {
             ..SUPER
         };
         assert_eq!(rt; clean.write()[28], 1);
+    }
+
+    #[test]
+    fn bytes_read(rt: HostRuntime) {
+        let mut sector = SUPER.write();
+        let read = Super::read(&sector).map(|v| (v.log_blocks, v.units, v.clean));
+        assert!(rt; matches!(read, Ok((512, 1, false))));
+        sector[28] = 2;
+        sector[511] = 1;
+        assert!(rt; matches!(Super::read(&sector), Err(BadSuper { field: 7 })));
+        sector[28] = 1;
+        assert!(rt; matches!(Super::read(&sector), Err(BadSuper { field: 8 })));
     }
 }
