@@ -1,0 +1,5 @@
+pub mod Filling
+pub mod Standing
+pub mod Lists
+pub mod Numbers
+pub mod Supers

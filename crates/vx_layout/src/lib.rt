@@ -1,2 +1,11 @@
 //! Where everything stands on the device, and how it is spelled in bytes (docs/LAYOUT.md).
 #![tactic(auto)]
+
+pub mod fields;
+mod sheet;
+mod superblock;
+mod volume;
+
+pub use sheet::Sheet;
+pub use superblock::{BadSuper, Super, sectors_needed};
+pub use volume::{block_sector, places, super_places};

@@ -1,0 +1,4 @@
+pub mod Lengths
+pub mod Entries
+pub mod Bitmaps
+pub mod DirLaws

@@ -1,0 +1,56 @@
+//! The bitmap of a unit.
+ghost use Rattle.std.specs.Prelude.{◌≡◌, ◌+◌, ◌*◌, ◌≤◌, false, length, get_or};
+ghost use Rattle.vx_layout.specs.Bits.{bit_value, bit_byte, bits_bytes};
+
+use vx_layout::Sheet;
+
+/// The one spelling of a bitmap's first sector: bit j, the lowest of a byte first, says whether block j of the
+/// unit is in use.
+#[tactic(auto, unfolding(vx_layout::specs::Bits::bits_from))]
+pub fn write_bits(used: &[bool; 4096]) -> [u8; 512]
+    ensures { result ≡ bits_bytes (λ j. get_or used.now j false) }
+{
+    let mut sheet = Sheet::<512>::new();
+    for i in 0..512 {
+        sheet.put_u8(byte_of(used, 8 * i));
+    }
+    sheet.finish()
+}
+
+#[tactic(auto, unfolding(vx_layout::specs::Bits::bit_byte))]
+fn byte_of(used: &[bool], at: usize) -> u8
+    requires { at + 8 ≤ length used.now }
+    ensures { result ≡ bit_byte (λ j. get_or used.now j false) at }
+{
+    weighed(used[at], 1)
+        + weighed(used[at + 1], 2)
+        + weighed(used[at + 2], 4)
+        + weighed(used[at + 3], 8)
+        + weighed(used[at + 4], 16)
+        + weighed(used[at + 5], 32)
+        + weighed(used[at + 6], 64)
+        + weighed(used[at + 7], 128)
+}
+
+fn weighed(bit: bool, weight: u8) -> u8
+    ensures value { result ≡ weight * bit_value bit }
+    ensures bound { result ≤ weight }
+{
+    if bit { weight } else { 0 }
+}
+
+#[cfg(test)]
+mod tests {
+    use super::*;
+
+    #[test]
+    fn first_34_blocks(rt: HostRuntime) {
+        let mut used = [false; 4096];
+        for j in 0..34 {
+            used[j] = true;
+        }
+        let sector = write_bits(&used);
+        assert!(rt; sector.starts_with(&[0xff, 0xff, 0xff, 0xff, 3]));
+        assert!(rt; sector.iter().skip(5).all(|byte| *byte == 0));
+    }
+}

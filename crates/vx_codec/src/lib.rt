@@ -1,0 +1,12 @@
+//! The sectors of the metadata as bytes: inodes, directory blocks and bitmaps (docs/LAYOUT.md).
+#![tactic(auto)]
+
+mod bitmap;
+mod directory;
+mod inode;
+mod part;
+
+pub use bitmap::write_bits;
+pub use directory::{dir_spelling, write_dir};
+pub use inode::{inode_sector, write_inode};
+pub use part::sector_part;
