@@ -1,0 +1,11 @@
+//! The intent log on a block device: batches of after-images are written between its tail and its
+//! head, and count from the write of the head sector on.
+#![tactic(auto)]
+
+mod batch;
+mod descriptor;
+mod head;
+mod sheet;
+
+pub use batch::Batch;
+pub use head::head_sector;
