@@ -1,2 +1,3 @@
 mod Filling
 mod BatchOrder
+pub mod Bodies

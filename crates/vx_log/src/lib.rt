@@ -3,9 +3,11 @@
 #![tactic(auto)]
 
 mod batch;
+mod body;
 mod descriptor;
 mod head;
 mod sheet;
 
 pub use batch::Batch;
+pub use body::log_length;
 pub use head::head_sector;
