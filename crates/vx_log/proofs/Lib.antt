@@ -1,3 +1,5 @@
 mod Filling
 mod BatchOrder
+mod StageLemmas
+pub mod RunLemmas
 pub mod Bodies

@@ -7,6 +7,7 @@ mod body;
 mod descriptor;
 mod head;
 mod sheet;
+mod stage;
 
 pub use batch::Batch;
 pub use body::log_length;
