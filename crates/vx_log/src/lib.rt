@@ -6,9 +6,11 @@ mod batch;
 mod body;
 mod descriptor;
 mod head;
+mod log;
 mod sheet;
 mod stage;
 
 pub use batch::Batch;
 pub use body::log_length;
 pub use head::head_sector;
+pub use log::Log;
