@@ -1,5 +1,5 @@
 -- How the intent log is spelled, and what an image with a log reads as.
-use Rattle.std.specs.Prelude.{◌≡◌, ◌==◌, ◌<◌, ◌≤◌, ◌+◌, ◌-◌, ◌*◌, ◌%◌, ℕ, Bool, IsTrue, List, [], ◌∷◌, ◌++◌, length, map, get_or, replicate, if◌then◌else◌}
+use Rattle.std.specs.Prelude.{◌≡◌, ◌==◌, ◌<◌, ◌≤◌, ◌+◌, ◌-◌, ◌*◌, ◌%◌, ◌/◌, ℕ, zero, suc, Bool, IsTrue, List, [], ◌∷◌, ◌++◌, length, map, take, drop, get_or, replicate, if◌then◌else◌}
 use Rattle.std.specs.Int.{w32, w64, to_le_bytes}
 use Rattle.std.specs.List.{flat_map}
 
@@ -67,3 +67,24 @@ pub record ReadsAs (n : ℕ) (r : LogState) (image : ℕ → List ℕ) : Type 0 
   pub fits : r.head ≤ r.tail + n
   pub whole : (i : ℕ) → i < length (live r) → image (log_at n (r.tail + i)) ≡ get_or (live r) i []
   pub metadata : (s : ℕ) → IsTrue (r.is_metadata s) → overlay_all r.records s (image s) ≡ r.contents s
+
+-- how many records a batch of so many after-images has
+abbrev pub record_count : ℕ → ℕ
+record_count len = (len + 123) / 124
+
+-- how many log sectors a batch of so many after-images has
+abbrev pub log_length : ℕ → ℕ
+log_length len = len + record_count len
+
+-- the batch's first k records, of 124 after-images each
+abbrev pub records_from : ℕ → List AfterImage → List (List AfterImage)
+records_from zero batch = []
+records_from (suc k) batch = take 124 batch ∷ records_from k (drop 124 batch)
+
+-- the batch cut into records of 124 after-images, all but the last full
+unfoldable pub records_of : List AfterImage → List (List AfterImage)
+records_of batch = records_from (record_count (length batch)) batch
+
+-- the log sectors of a batch that begins at this position
+abbrev pub body_of : ℕ → List AfterImage → List (List ℕ)
+body_of position batch = log_sectors position (records_of batch)

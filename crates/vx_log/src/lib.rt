@@ -1,0 +1,16 @@
+//! The intent log on a block device: batches of after-images are written between its tail and its
+//! head, and count from the write of the head sector on.
+#![tactic(auto)]
+
+mod batch;
+mod body;
+mod descriptor;
+mod head;
+mod log;
+mod sheet;
+mod stage;
+
+pub use batch::Batch;
+pub use body::log_length;
+pub use head::head_sector;
+pub use log::Log;
