@@ -6,3 +6,5 @@ pub mod Roots
 pub mod MakingLaws
 pub mod PathEnds
 pub mod Outcomes
+pub mod Transactions
+pub mod Blocks

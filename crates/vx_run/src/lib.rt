@@ -1,7 +1,12 @@
 //! The top call: a script over a device, from its words to the replies and the image.
 #![tactic(auto)]
 
+mod device;
+mod format;
+mod homes;
+mod kernel;
 mod metadata;
 mod names;
 mod node;
+mod sectors;
 mod table;

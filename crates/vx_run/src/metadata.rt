@@ -1,5 +1,5 @@
 //! The tree of names and its directory blocks, as a mount keeps them in memory.
-ghost use Rattle.std.specs.Prelude.{◌≡◌, ◌≤◌, ◌<◌, ◌+◌, ◌*◌, ◌++◌, ◌∷◌, OnOk, OnErr, IfOk, ℕ, Some, None, true, [], length};
+ghost use Rattle.std.specs.Prelude.{◌≡◌, ◌≤◌, ◌<◌, ◌+◌, ◌*◌, ◌++◌, ◌∷◌, OnOk, OnErr, IfOk, ℕ, Some, None, true, [], length, All};
 ghost use Rattle.std.specs.FinMap as map;
 ghost use Rattle.vx_base.specs.declared.inode.DirEntry.{DirEntry};
 ghost use Rattle.vx_model.specs.Layout.{used_by};
@@ -34,6 +34,7 @@ pub struct Metadata {
     pub used: usize,
     ghost used_is: { used ≡ used_by entries.items },
     ghost within: { used ≤ 1020 },
+    ghost short: { All (λ e. length e.name < 256) entries.items },
     ghost only_root: { OnlyRoot nodes },
 }
 

@@ -1,0 +1,93 @@
+//! A new file system of one allocation unit.
+ghost use Rattle.std.specs.Prelude.{◌≡◌, ◌<◌, ◌≤◌, ◌+◌, OnOk, OnErr};
+ghost use Rattle.vx_base.specs.Faults.{HasCause};
+ghost use Rattle.vx_run.specs.Devices.{Onward};
+
+use crate::device::{pass, put};
+use vx_base::{ExtAttrs, FileKind, Inode, InodeValue};
+use vx_codec::{inode_sector, write_bits};
+use vx_dev::{BlockDev, DevFault};
+use vx_layout::Super;
+use vx_log::head_sector;
+
+/// The log's blocks.
+pub const LOG_BLOCKS: u32 = 512;
+
+/// The superblock of a mounted file system, or of one that was left clean.
+pub fn superblock(clean: bool) -> Super
+    ensures { result ≡ record { log_blocks = 512; units = 1; clean = clean } }
+{
+    Super {
+        log_blocks: LOG_BLOCKS,
+        units: 1,
+        clean,
+    }
+}
+
+/// An inode without blocks.
+fn empty_root() -> InodeValue {
+    InodeValue {
+        inode: Inode {
+            kind: FileKind::Directory,
+            mode: 0o755,
+            nlink: 1,
+            size: 0,
+            attrs: ExtAttrs {
+                fixed: 0,
+                reserve: 0,
+                flags: 0,
+            },
+        },
+        maps: 0,
+        extents: 0,
+        first: [None; 6],
+        map: None,
+    }
+}
+
+/// The blocks of a unit that are never free: its bitmap and its inodes.
+fn first_bits() -> [u8; 512] {
+    let mut used = [false; 4096];
+    for j in 0..33 {
+        used[j] = true;
+    }
+    write_bits(&used)
+}
+
+/// The sector with this number of a new unit.
+fn unit_sector(i: u64) -> [u8; 512] {
+    match i {
+        0 => first_bits(),
+        3 => inode_sector(Some(&empty_root()), None),
+        _ => [0; 512],
+    }
+}
+
+/// Writes the sectors of a new unit: its bitmap and its inodes.
+fn put_unit<D: BlockDev>(dev: &mut D) -> Result<(), DevFault>
+    requires { 9220 ≤ (D.state dev.old).size }
+    ensures onward { Onward (D.state dev.old) (D.state dev.new) }
+    ensures count { OnOk result ((D.state dev.new).count ≡ (D.state dev.old).count + 66) }
+    ensures most { OnErr result ((D.state dev.new).count ≤ (D.state dev.old).count + 66) }
+    ensures cause { HasCause (D.state dev.old).write_faults (D.state dev.new).write_faults result }
+{
+    for i in 0..66u64 {
+        put(dev, 1028 + i, &unit_sector(i))?;
+    }
+    Ok(())
+}
+
+/// Writes a new file system, in 70 operations: the unit and the log's head, a barrier, the superblock, not clean, a barrier.
+pub fn format<D: BlockDev>(dev: &mut D) -> Result<(), DevFault>
+    requires { 9220 ≤ (D.state dev.old).size }
+    ensures onward { Onward (D.state dev.old) (D.state dev.new) }
+    ensures count { OnOk result ((D.state dev.new).count ≡ (D.state dev.old).count + 70) }
+    ensures fewer { OnErr result ((D.state dev.new).count < (D.state dev.old).count + 70) }
+    ensures cause { HasCause (D.state dev.old).write_faults (D.state dev.new).write_faults result }
+{
+    put_unit(dev)?;
+    put(dev, 2, &head_sector(1, 0, 0))?;
+    pass(dev)?;
+    put(dev, 0, &superblock(false).write())?;
+    pass(dev)
+}

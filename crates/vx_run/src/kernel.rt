@@ -1,0 +1,123 @@
+//! The device with its log: commits, homes and unmounting.
+ghost use Rattle.std.specs.Prelude.{◌≡◌, ◌<◌, ◌≤◌, ◌+◌, ◌*◌, ◌^◌, OnOk, OnErr, IfOk, IsNone, IsSome, Some, None, [], length, All, ℕ, IsTrue, option_map};
+ghost use Rattle.vx_base.specs.Faults.{HasCause};
+ghost use Rattle.vx_dev.specs.Tape.{State};
+ghost use Rattle.vx_log.specs.Logs.{is_body_out};
+ghost use Rattle.vx_run.specs.Devices.{Onward};
+
+use crate::device::{pass, put};
+use crate::format::{superblock, LOG_BLOCKS};
+use crate::homes::Homes;
+use crate::metadata::Metadata;
+use crate::sectors::stage;
+use std::alloc::{AllocError, Global};
+use vx_base::SectorNo;
+use vx_dev::{BlockDev, DevFault};
+use vx_log::{log_length, Batch, Log};
+
+/// What a mount needs beside its device to make transactions durable.
+#[derive(Drop)]
+pub struct Journal {
+    pub log: Log,
+    pub homes: Homes,
+    /// The emptied batch that the next transaction goes into.
+    pub ready: Option<Batch>,
+}
+
+impl Journal {
+    ghost use Rattle.vx_run.specs.Journals.{IsAtRest, IsIdle};
+
+    /// The journal of a new file system. It takes all the memory that it ever needs.
+    pub fn new(alloc: Global) -> Result<Self, AllocError>
+        ensures { IfOk result (λ journal. IsAtRest journal × (journal.log.head ≡ 0)) }
+    {
+        let log = Log::fresh(alloc, LOG_BLOCKS)?;
+        let homes = Homes::new(alloc)?;
+        let ready = Some(Batch::new(alloc)?);
+        Ok(Journal { log, homes, ready })
+    }
+
+    /// Makes a transaction durable: its sectors go into the log, and the head sector then names them.
+    pub fn commit<D: BlockDev>(&mut self, dev: &mut D, metadata: &Metadata, made: u32) -> Result<(), DevFault>
+        requires rest { IsAtRest self.old }
+        requires size { 9220 ≤ (D.state dev.old).size }
+        requires inode { made < 128 }
+        requires limit { self.old.log.head + 6 ≤ 2 ^ 62 }
+        ensures rest { OnOk result (IsAtRest self.new) }
+        ensures head { self.new.log.head ≤ self.old.log.head + 6 }
+        ensures onward { Onward (D.state dev.old) (D.state dev.new) }
+        ensures cause { HasCause (D.state dev.old).write_faults (D.state dev.new).write_faults result }
+    {
+        let Some(mut batch) = self.ready.take() else {
+            unreachable!()
+        };
+        stage(&mut batch, metadata, made);
+        if self.log.room() < log_length(batch.len()) {
+            self.empty(dev)?;
+        }
+        note_all(&mut self.homes, batch.entries());
+        self.log.close_batch(batch);
+        put_body(&mut self.log, dev)?;
+        pass(dev)?;
+        self.log.open_gate(dev)?;
+        pass(dev)?;
+        self.ready = self.log.take_back();
+        Ok(())
+    }
+
+    /// Writes all homes and moves the log's tail to its head, where the log has anything.
+    pub fn empty<D: BlockDev>(&mut self, dev: &mut D) -> Result<(), DevFault>
+        requires idle { IsIdle self.old }
+        requires size { 9220 ≤ (D.state dev.old).size }
+        ensures idle { OnOk result (IsIdle self.new) }
+        ensures ready { self.new.ready ≡ self.old.ready }
+        ensures empty { OnOk result (self.new.log.tail ≡ self.new.log.head) }
+        ensures head { self.new.log.head ≡ self.old.log.head }
+        ensures onward { Onward (D.state dev.old) (D.state dev.new) }
+        ensures cause { HasCause (D.state dev.old).write_faults (D.state dev.new).write_faults result }
+    {
+        let head = self.log.head();
+        if self.log.tail() == head {
+            return Ok(());
+        }
+        self.homes.put_all(dev)?;
+        pass(dev)?;
+        self.log.advance_tail(dev, head)?;
+        pass(dev)
+    }
+
+    /// Empties the log and leaves the file system clean.
+    pub fn unmount<D: BlockDev>(&mut self, dev: &mut D) -> Result<(), DevFault>
+        requires rest { IsAtRest self.old }
+        requires size { 9220 ≤ (D.state dev.old).size }
+        ensures onward { Onward (D.state dev.old) (D.state dev.new) }
+        ensures cause { HasCause (D.state dev.old).write_faults (D.state dev.new).write_faults result }
+    {
+        self.empty(dev)?;
+        put(dev, 0, &superblock(true).write())?;
+        pass(dev)
+    }
+}
+
+/// Notes what the sectors of a transaction are to hold.
+fn note_all(homes: &mut Homes, entries: &[(SectorNo, [u8; 512])])
+    requires { All (λ e. (1028 ≤ e.0) × (e.0 < 1096)) entries.now }
+{
+    for entry in entries {
+        homes.note(entry.0, &entry.1);
+    }
+}
+
+/// Writes the log sectors of the closing batch.
+fn put_body<D: BlockDev>(log: &mut Log, dev: &mut D) -> Result<(), DevFault>
+    requires closing { IsSome log.old.closing }
+    requires area { 4 + log.old.sectors ≤ (D.state dev.old).size }
+    ensures out { OnOk result (IsTrue (is_body_out log.new.closing)) }
+    ensures same { log.new ≡ record log.old { closing = log.new.closing } }
+    ensures batch { option_map (λ c. c.batch) log.new.closing ≡ option_map (λ c. c.batch) log.old.closing }
+    ensures onward { Onward (D.state dev.old) (D.state dev.new) }
+    ensures cause { HasCause (D.state dev.old).write_faults (D.state dev.new).write_faults result }
+{
+    while !log.put_next(dev)? {}
+    Ok(())
+}
