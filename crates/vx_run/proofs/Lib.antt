@@ -5,6 +5,7 @@ pub mod Lowest
 pub mod Roots
 pub mod MakingLaws
 pub mod PathEnds
-pub mod Outcomes
 pub mod Transactions
 pub mod Blocks
+pub mod Histories
+pub mod Faultless

@@ -4,3 +4,6 @@ pub mod States
 pub mod Metadata
 pub mod Devices
 pub mod Journals
+pub mod Replies
+pub mod Cores
+pub mod Words

@@ -2,6 +2,7 @@
 #![tactic(auto)]
 
 mod device;
+mod engine;
 mod format;
 mod homes;
 mod kernel;
@@ -10,3 +11,4 @@ mod names;
 mod node;
 mod sectors;
 mod table;
+mod words;

@@ -8,12 +8,13 @@ ghost use Rattle.std.specs.List.{list_all};
 ghost use Rattle.vx_base.specs.Paths.{is_name};
 ghost use Rattle.vx_model.specs.Making.{with_name};
 ghost use Rattle.vx_run.specs.States.{OnlyRoot, state_by, has_place};
+ghost use Rattle.vx_run.specs.Replies.{IsShort, IsSound};
 
 use crate::names::NameTable;
 use crate::node::{DirectoryNode, PlainNode};
 use crate::table::{NodeTable, lowest_unused, walk};
 use std::alloc::{AllocError, Global};
-use vx_base::{Call, DirEntry, Ino, Name, Refusal, Reply};
+use vx_base::{copy_of_reply, Call, DirEntry, Ino, Name, Refusal, Reply};
 use vx_path::{SplitRefusal, split};
 
 const UNITS: u32 = 1;
@@ -66,7 +67,8 @@ impl Metadata {
 
     /// What `list` answers of an inode.
     fn list_at(&self, alloc: Global, at: u32) -> Result<Reply, AllocError>
-        ensures { IfOk result (λ reply. reply ≡ (settled (state_of self.now) (list_at (state_of self.now) at)).reply) }
+        ensures reply { IfOk result (λ reply. reply ≡ (settled (state_of self.now) (list_at (state_of self.now) at)).reply) }
+        ensures sound { IfOk result IsSound }
     {
         match self.nodes.get(at) {
             None => Ok(Reply::Refused(Refusal::NoEnt)),
@@ -79,7 +81,8 @@ impl Metadata {
 
     /// What `list` answers of the end of these names.
     fn list_along(&self, alloc: Global, names: &[Name]) -> Result<Reply, AllocError>
-        ensures { IfOk result (λ reply. reply ≡ (settled (state_of self.now) (list_along (state_of self.now) names.now)).reply) }
+        ensures reply { IfOk result (λ reply. reply ≡ (settled (state_of self.now) (list_along (state_of self.now) names.now)).reply) }
+        ensures sound { IfOk result IsSound }
     {
         match walk(&self.nodes, names) {
             Ok(at) => self.list_at(alloc, at),
@@ -89,7 +92,8 @@ impl Metadata {
 
     /// What `list` answers.
     pub fn list(&self, alloc: Global, path: &[u8]) -> Result<Reply, AllocError>
-        ensures { IfOk result (λ reply. reply ≡ (settled (state_of self.now) (list (state_of self.now) path.now)).reply) }
+        ensures reply { IfOk result (λ reply. reply ≡ (settled (state_of self.now) (list (state_of self.now) path.now)).reply) }
+        ensures sound { IfOk result IsSound }
     {
         match split(alloc, path) {
             Ok(names) => self.list_along(alloc, names.as_slice()),
@@ -155,6 +159,7 @@ impl Metadata {
         requires short { length name.now ≤ 255 }
         ensures reply { IfOk result (λ reply. reply ≡ (settled (state_of self.old) (make_at (state_of self.old) name.now (new_file mode) at)).reply) }
         ensures state { OnOk result (state_of self.new ≡ (settled (state_of self.old) (make_at (state_of self.old) name.now (new_file mode) at)).state) }
+        ensures short { IfOk result IsShort }
         ensures err { OnErr result (state_of self.new ≡ state_of self.old) }
     {
         match self.nodes.get(at) {
@@ -184,6 +189,7 @@ impl Metadata {
         requires legal { list_all is_name names.now ≡ true }
         ensures reply { IfOk result (λ reply. reply ≡ (settled (state_of self.old) (make_along (state_of self.old) (new_file mode) names.now)).reply) }
         ensures state { OnOk result (state_of self.new ≡ (settled (state_of self.old) (make_along (state_of self.old) (new_file mode) names.now)).state) }
+        ensures short { IfOk result IsShort }
         ensures err { OnErr result (state_of self.new ≡ state_of self.old) }
     {
         match names.split_last() {
@@ -199,6 +205,7 @@ impl Metadata {
     pub fn create(&mut self, alloc: Global, path: &[u8], mode: u16) -> Result<Reply, AllocError>
         ensures reply { IfOk result (λ reply. reply ≡ (settled (state_of self.old) (create (state_of self.old) path.now mode)).reply) }
         ensures state { OnOk result (state_of self.new ≡ (settled (state_of self.old) (create (state_of self.old) path.now mode)).state) }
+        ensures short { IfOk result IsShort }
         ensures err { OnErr result (state_of self.new ≡ state_of self.old) }
     {
         match split(alloc, path) {
@@ -208,17 +215,39 @@ impl Metadata {
         }
     }
 
-    /// Does a call, and answers its reply. Nothing changes where memory is short.
-    pub fn apply(&mut self, alloc: Global, call: &Call) -> Result<Reply, AllocError>
+    /// Does a call, and answers its reply, twice. Nothing changes where memory is short.
+    pub fn apply(&mut self, alloc: Global, call: &Call) -> Result<(Reply, Reply), AllocError>
         requires { has_step call.now ≡ true }
-        ensures reply { (session : ℕ) → IfOk result (λ reply. IfThere (step (state_of self.old) session call.now) (λ done. reply ≡ done.reply)) }
+        ensures reply { (session : ℕ) → IfOk result (λ replies. IfThere (step (state_of self.old) session call.now) (λ done. replies.0 ≡ done.reply)) }
+        ensures copy { IfOk result (λ replies. replies.1 ≡ replies.0) }
+        ensures sound { IfOk result (λ replies. IsSound replies.0) }
         ensures state { (session : ℕ) → OnOk result (state_of self.new ≡ state_after_step (state_of self.old) (step (state_of self.old) session call.now)) }
         ensures err { OnErr result (state_of self.new ≡ state_of self.old) }
     {
         match call {
-            Call::Create { path, mode } => self.create(alloc, path.as_slice(), *mode),
-            Call::List { path } => self.list(alloc, path.as_slice()),
+            Call::Create { path, mode } => {
+                let reply = self.create(alloc, path.as_slice(), *mode)?;
+                let copy = short_copy(&reply);
+                Ok((reply, copy))
+            }
+            Call::List { path } => {
+                let reply = self.list(alloc, path.as_slice())?;
+                let copy = copy_of_reply(&reply)?;
+                Ok((reply, copy))
+            }
             _ => unreachable!(),
         }
+    }
+}
+
+/// The same reply, where it takes no memory.
+fn short_copy(reply: &Reply) -> Reply
+    requires { IsShort reply.now }
+    ensures { result ≡ reply.now }
+{
+    match reply {
+        Reply::Made { ino } => Reply::Made { ino: *ino },
+        Reply::Refused(why) => Reply::Refused(*why),
+        _ => unreachable!(),
     }
 }

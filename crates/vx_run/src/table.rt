@@ -1,5 +1,6 @@
 //! The nodes by their inode numbers.
-ghost use Rattle.std.specs.Prelude.{◌≡◌, ◌≤◌, ◌<◌, ◌*◌, OnOk, OnErr, Some, None, length};
+ghost use Rattle.std.specs.Prelude.{◌≡◌, ◌≤◌, ◌<◌, ◌*◌, OnOk, OnErr, IfErr, Some, None, false, length};
+ghost use Rattle.vx_model.specs.Legal.{is_any_time};
 ghost use Rattle.std.specs.Option.{option_map};
 ghost use Rattle.std.specs.FinMap as map;
 ghost use Rattle.vx_model.specs.Tree.{IsDirectory, Directory, lowest_unused};
@@ -128,7 +129,8 @@ fn add_at(
 
 // One step of a walk.
 fn step_to(nodes: &NodeTable, at: u32, name: &Name) -> Result<u32, Refusal>
-    ensures { result ≡ step_to nodes.now at name.now }
+    ensures step { result ≡ step_to nodes.now at name.now }
+    ensures refusal { IfErr result (λ why. is_any_time why ≡ false) }
 {
     match nodes.get(at) {
         None => Err(Refusal::NoEnt),
@@ -142,7 +144,8 @@ fn step_to(nodes: &NodeTable, at: u32, name: &Name) -> Result<u32, Refusal>
 
 /// The inode at the end of these names.
 pub fn walk(nodes: &NodeTable, names: &[Name]) -> Result<u32, Refusal>
-    ensures { result ≡ walk nodes.now root names.now }
+    ensures walk { result ≡ walk nodes.now root names.now }
+    ensures refusal { IfErr result (λ why. is_any_time why ≡ false) }
 {
     let mut at = 2;
     for name in names {

@@ -1,0 +1,54 @@
+-- A mount between two calls.
+use Rattle.std.specs.Prelude.{◌≡◌, ◌⊎◌, ◌≤◌, ◌*◌, ◌+◌, ℕ, Bool, true, false, List, [], ◌∷◌, ◌++◌, length, Option, None, IsSome}
+use Rattle.std.specs.FinMap as map
+use Rattle.vx_base.specs.declared.call.Call.{Call}
+use Rattle.vx_base.specs.declared.reply.Reply.{Reply}
+use Rattle.vx_base.specs.declared.event.Event.{Event}
+use Rattle.vx_base.specs.declared.event.Event.TheVariants as event
+use Rattle.vx_base.specs.Faults.{Rose}
+use Rattle.vx_dev.specs.Tape as dev
+use Rattle.vx_model.specs.State.{State, fresh}
+use Rattle.vx_model.specs.Step.{step}
+use Rattle.vx_model.specs.Legal.{World, opening, after_all, Legal, IfThere, is_fault, state_after}
+use Rattle.vx_run.specs.States.{new_log_blocks}
+use Rattle.vx_run.specs.Metadata.{state_of}
+use Rattle.vx_run.specs.Journals.{IsAtRest}
+use Rattle.vx_run.specs.declared.engine.Core.{Core}
+
+-- where every mount begins: a new file system whose directories have one block at most
+abbrev pub beginning : ℕ → World
+beginning opened = opening opened (fresh new_log_blocks 1)
+
+-- the history is legal, leads to the state, and every call in it is answered
+pub record IsRun (opened : ℕ) (history : List Event) (state : State) (count : ℕ) : Type 0 where
+  pub legal : Legal (beginning opened) history
+  pub state_is : (after_all (beginning opened) history).state ≡ state
+  pub idle : (after_all (beginning opened) history).waiting ≡ map.empty
+  pub next : (after_all (beginning opened) history).next ≡ length history
+  pub at : (after_all (beginning opened) history).at ≤ count
+  pub mounted : (after_all (beginning opened) history).unmounted ≡ false
+
+-- what every mount keeps between two calls
+pub record IsCore (d : dev.State) (core : Core) : Type 0 where
+  pub run : IsRun core.opened core.history.items (state_of core.metadata) d.count
+  pub size : 9220 ≤ d.size
+  pub rest : core.disabled ≡ None → IsAtRest core.journal
+  pub head : core.journal.log.head ≤ 8 * length core.history.items
+
+-- a line's call and its answer, behind the history before it
+pub record IsAnswered (line : ℕ) (call : Call) (old new : List Event) : Type 0 where
+  pub at : ℕ
+  pub reply : Reply
+  pub later : ℕ
+  pub answer : Reply
+  pub is : new ≡ (old ++ event.Do at 0 line call reply ∷ []) ++ event.Ret later (length old) answer ∷ []
+
+-- what a call replies in a state, and the state that it leaves
+pub record IsReply (s : State) (call : Call) (reply : Reply) (new : State) : Type 0 where
+  pub reply_is : IfThere (step s 0 call) (λ done. (reply ≡ done.reply) ⊎ (is_fault reply ≡ true))
+  pub state_is : new ≡ state_after s 0 call reply
+
+-- the mount is disabled exactly where a write or barrier failed
+pub record TellsFaults (before now : ℕ) (disabled : Option ℕ) : Type 0 where
+  pub none : disabled ≡ None → now ≡ before
+  pub some : IsSome disabled → Rose before now
