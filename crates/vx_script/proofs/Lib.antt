@@ -1,0 +1,4 @@
+mod CallLaws
+mod Joins
+mod ScriptLaws
+mod Splits
