@@ -2,3 +2,4 @@ mod CallLaws
 mod Joins
 mod ScriptLaws
 mod Splits
+mod Pieces

@@ -1,2 +1,4 @@
 pub mod Lines
 pub mod Script
+pub mod Puts
+pub mod Words

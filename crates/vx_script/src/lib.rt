@@ -4,5 +4,7 @@
 mod command;
 mod lines;
 mod script;
+mod text_buffer;
+mod words;
 
-pub use script::{ScriptRefusal, parse};
+pub use script::{ScriptRefusal, parse, script_law};
