@@ -1,6 +1,6 @@
 -- Texts that are put in pieces.
 use Rattle.std.proofs.Common.{◌≡◌, ℕ, ◌+◌, ◌≤◌, ◌<◌, length, get_or, take, drop, take-append-drop, List, [], ◌∷◌, ◌++◌, refl, sym, ◌∙◌, ap, subst, append_assoc, append-nil, Result, Ok, Err, arith, length-drop, ◌-◌}
-use Rattle.std.specs.Prelude.{MatchResult, flat_map}
+use Rattle.std.specs.Prelude.{MatchResult, map, flat_map}
 use Rattle.std.proofs.lemmas.List.{take_more, take_all}
 use Rattle.std.proofs.lemmas.List.Concat.{flat_map-append}
 use Rattle.std.specs.Result.{IsErrAnd}
@@ -75,6 +75,10 @@ puts_broken {X} {a} {b} {c} {f} {g} {h} {w} {l} t xs i d lt p q =
       ap (flat_map t) (sym (take-append-drop (i + 1) xs)) ∙ flat_map-append t (take (i + 1) xs) (drop (i + 1) xs)
         ∙ ap (λ (x : List ℕ). x ++ flat_map t (drop (i + 1) xs)) (flat_map-take_more t xs i d lt) in
     subst (PutsPart a c f h w) (sym whole) (puts_part (flat_map t (drop (i + 1) xs)) (puts_all_part p q))
+
+pub flat_map-map : {X Y : Type 0} (t : Y → List ℕ) (h : X → Y) (xs : List X) → flat_map t (map h xs) ≡ flat_map (λ x. t (h x)) xs
+flat_map-map t h [] = refl
+flat_map-map t h (x ∷ xs) = ap (λ (y : List ℕ). t (h x) ++ y) (flat_map-map t h xs)
 
 -- ---- a piece that is written
 

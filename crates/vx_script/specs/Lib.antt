@@ -2,3 +2,4 @@ pub mod Lines
 pub mod Script
 pub mod Puts
 pub mod Words
+pub mod Text

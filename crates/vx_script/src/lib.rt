@@ -3,6 +3,7 @@
 
 mod command;
 mod lines;
+mod replies;
 mod script;
 mod text_buffer;
 mod words;

@@ -1,7 +1,7 @@
 //! The words of the output.
-ghost use Rattle.std.specs.Prelude.{◌≡◌, ◌<◌, decimal};
+ghost use Rattle.std.specs.Prelude.{◌≡◌, ◌<◌, ◌≤◌, ◌∷◌, decimal};
 ghost use Rattle.vx_script.specs.Puts.{Puts};
-ghost use Rattle.vx_script.specs.Words.{hex_digit, hex_pair, escaped, name_text, hex_text, octal_digit as last_octal_digit, mode_text, text_of_word, spaced, spaced_words};
+ghost use Rattle.vx_script.specs.Words.{hex_digit, hex_pair, escaped, dash_text, flag_text, flags_text, name_text, hex_text, octal_digit as last_octal_digit, mode_text, text_of_word, spaced, spaced_words};
 
 use crate::text_buffer::{TextBuffer, put};
 use itoa::Buffer;
@@ -17,6 +17,8 @@ pub enum Word<'a> {
     /// With other bytes than printed ones escaped.
     Name(&'a [u8]),
     Hex(&'a [u8]),
+    /// The flags of a file's attributes, by their bits in the inode.
+    Flags(u8),
 }
 
 /// Puts words, each after a space.
@@ -46,6 +48,7 @@ pub fn put_word<K: Sink>(out: &mut K, buffer: &mut TextBuffer, word: &Word<'_>) 
         Word::Mode(mode) => put(out, buffer, &octal_digits(*mode)),
         Word::Name(name) => put_name(out, buffer, name),
         Word::Hex(bytes) => put_hex(out, buffer, bytes),
+        Word::Flags(flags) => put_flags(out, buffer, *flags),
     }
 }
 
@@ -109,4 +112,42 @@ fn octal_digit(n: u16) -> u8
     ensures { result ≡ last_octal_digit n }
 {
     b'0' + (n % 8) as u8
+}
+
+fn put_flags<K: Sink>(out: &mut K, buffer: &mut TextBuffer, flags: u8) -> Result<(), SinkFault>
+    ensures { Puts (K.taken out.old) (K.taken out.new) (K.fault_count out.old) (K.fault_count out.new) buffer.old buffer.new result (flags_text flags) }
+{
+    put_flag(out, buffer, flags, 1, b"align")?;
+    put_flag(out, buffer, flags, 2, b"contig")?;
+    put_flag(out, buffer, flags, 4, b"noextend")?;
+    put_flag(out, buffer, flags, 8, b"noreserve")?;
+    put_flag(out, buffer, flags, 16, b"trim")?;
+    put_dash(out, buffer, flags)
+}
+
+fn put_flag<K: Sink>(out: &mut K, buffer: &mut TextBuffer, flags: u8, bit: u8, name: &[u8]) -> Result<(), SinkFault>
+    requires { 1 ≤ bit }
+    ensures { Puts (K.taken out.old) (K.taken out.new) (K.fault_count out.old) (K.fault_count out.new) buffer.old buffer.new result (flag_text flags bit name.now) }
+{
+    if flags & bit == 0 {
+        Ok(())
+    } else if flags & (bit - 1) == 0 {
+        put(out, buffer, name)
+    } else {
+        put_after_comma(out, buffer, name)
+    }
+}
+
+fn put_after_comma<K: Sink>(out: &mut K, buffer: &mut TextBuffer, name: &[u8]) -> Result<(), SinkFault>
+    ensures { Puts (K.taken out.old) (K.taken out.new) (K.fault_count out.old) (K.fault_count out.new) buffer.old buffer.new result (44 ∷ name.now) }
+{
+    put(out, buffer, b",")?;
+    put(out, buffer, name)
+}
+
+/// Puts a dash where no flag is set.
+fn put_dash<K: Sink>(out: &mut K, buffer: &mut TextBuffer, flags: u8) -> Result<(), SinkFault>
+    ensures { Puts (K.taken out.old) (K.taken out.new) (K.fault_count out.old) (K.fault_count out.new) buffer.old buffer.new result (dash_text flags) }
+{
+    if flags & 31 == 0 { put(out, buffer, b"-") } else { Ok(()) }
 }
