@@ -3,3 +3,4 @@ mod Joins
 mod ScriptLaws
 mod Splits
 mod Pieces
+mod OutputLaws

@@ -53,6 +53,11 @@ pub puts_then : {T E : Type 0} {a b : Option (List ℕ)} {f g : ℕ} {w l t : Li
 puts_then c h m u (Ok x) p q = puts_all p q
 puts_then c h m u (Err e) p q = puts_all_part p q
 
+-- a text, and then the bytes that wait are handed on
+pub puts_flushed : {T E : Type 0} {a b : Option (List ℕ)} {f g : ℕ} {w l t : List ℕ} (c : Option (List ℕ)) (h : ℕ) (m : List ℕ) (r : Result T E)
+    → PutsAll a b f g w l t → Puts b c g h l m r [] → Puts a c f h w m r t
+puts_flushed {a = a} {f = f} {w = w} {t = t} c h m r p q = subst (Puts a c f h w m r) (append-nil t) (puts_then c h m [] r p q)
+
 -- what is returned at a fault
 pub puts_at_err : {T E : Type 0} {a b : Option (List ℕ)} {f g : ℕ} {w t : List ℕ} (m : List ℕ) (r : Result T E) (R : E → Type 0) → IsErrAnd r R → PutsPart a b f g w t → Puts a b f g w m r t
 puts_at_err m (Ok x) R h p = absurd h

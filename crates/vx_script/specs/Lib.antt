@@ -3,3 +3,4 @@ pub mod Script
 pub mod Puts
 pub mod Words
 pub mod Text
+pub mod Output

@@ -3,9 +3,11 @@
 
 mod command;
 mod lines;
+mod output;
 mod replies;
 mod script;
 mod text_buffer;
 mod words;
 
+pub use output::render;
 pub use script::{ScriptRefusal, parse, script_law};
