@@ -1,16 +1,15 @@
 -- What may stand in a script.
-use Rattle.std.proofs.Common.{◌≡◌, ◌≢◌, ℕ, ◌+◌, ◌-◌, ◌*◌, ◌<◌, ◌≤◌, ◌^◌, lit<, Bool, true, false, cond, not, ◌&&◌, ◌||◌, ◌==◌, nat_le, take, drop, List, [], ◌∷◌, ◌++◌, length, get_or, Option, Some, None, Result, Ok, Err, refl, sym, ap, subst, ◌∙◌, arith, inl, inr}
+use Rattle.std.proofs.Common.{◌≡◌, ◌≢◌, ℕ, ◌<◌, ◌≤◌, ◌^◌, lit<, Bool, true, false, not, ◌&&◌, ◌||◌, ◌==◌, nat_le, take, drop, List, [], ◌∷◌, length, Option, Some, None, refl, ap, subst, arith}
 use Rattle.std.proofs.Math.Nat.{pow-le-pow_right}
 use Rattle.std.proofs.lemmas.Bool.Decides.{nat_tests}
 use Rattle.std.proofs.lemmas.Slice.Eq.{bytes_eq-Decides}
 use Rattle.std.proofs.lemmas.List.Sums.{AllPass-from_list_all}
-use Rattle.std.specs.Prelude.{All, IsTrue, codes, count_by, if◌then◌else◌}
+use Rattle.std.specs.Prelude.{All, codes, if◌then◌else◌}
 use Rattle.std.specs.Str.{bytes_eq}
 use Rattle.std.specs.List.{list_all, before_first, after_first}
 use Rattle.vx_base.specs.declared.call.Call.{Call}
 use Rattle.vx_base.specs.declared.call.Call.TheVariants as call
-use Rattle.vx_script.specs.declared.script.ScriptRefusal.{ScriptRefusal}
-use Rattle.vx_script.specs.Script.{is_space, is_dots, is_name_byte, is_name, is_path, is_octal_digit, is_mode, octal_value, mode_of, create, create_of, call_of, is_list, lists_with, allowed, joined, prepended, calls_after, calls_of_lines, script_of, IsScriptName, IsScriptPath, IsScriptCall, IsScript}
+use Rattle.vx_script.specs.Script.{is_space, is_dots, is_name_byte, is_name, is_path, is_octal_digit, is_mode, octal_value, mode_of, create, create_of, call_of, IsScriptName, IsScriptPath, IsScriptCall}
 
 both : (a b : Bool) → (a && b) ≡ true → (a ≡ true) × (b ≡ true)
 both true b h = (refl, h)
@@ -29,10 +28,10 @@ name_byte b h = grind (arith, nat_tests)
 dots_not : (name : List ℕ) → not (is_dots name) ≡ true → (name ≢ codes ".") × (name ≢ codes "..")
 dots_not name h =
     elim (bytes_eq name (codes ".")) as (λ b. bytes_eq name (codes ".") ≡ b → not (b || bytes_eq name (codes "..")) ≡ true → (name ≢ codes ".") × (name ≢ codes "..")) [
-      true ↦ λ e t. absurd (cc)
-    | false ↦ λ e. elim (bytes_eq name (codes "..")) as (λ b. bytes_eq name (codes "..") ≡ b → not b ≡ true → (name ≢ codes ".") × (name ≢ codes "..")) [
-        true ↦ λ f t. absurd (cc)
-      | false ↦ λ f t. (apart name (codes ".") e, apart name (codes "..") f)
+      | true ↦ λ e t. absurd (cc)
+      | false ↦ λ e. elim (bytes_eq name (codes "..")) as (λ b. bytes_eq name (codes "..") ≡ b → not b ≡ true → (name ≢ codes ".") × (name ≢ codes "..")) [
+        | true ↦ λ f t. absurd (cc)
+        | false ↦ λ f t. (apart name (codes ".") e, apart name (codes "..") f)
       ] refl
     ] refl h
 
@@ -50,7 +49,8 @@ name_legal name h =
       at_most = grind (arith, nat_tests, c.1);
       printed = passes is_name_byte _ name name_byte b.1;
       not_dot = (dots_not name a.1).0;
-      not_dot_dot = (dots_not name a.1).1 }
+      not_dot_dot = (dots_not name a.1).1;
+    }
 
 path_legal : (path : List ℕ) → is_path path ≡ true → IsScriptPath path
 unfolding is_path
@@ -76,23 +76,23 @@ mode_small : (digits : List ℕ) (mode : ℕ) → mode_of digits ≡ Some mode �
 unfolding mode_of
 mode_small digits mode h =
     elim (is_mode digits) as (λ b. is_mode digits ≡ b → (if b then Some (octal_value digits) else None) ≡ Some mode → mode ≤ 4095) [
-      true ↦ λ e f.
-        let some = nat_le 1 (length digits) in
-        let few = nat_le (length digits) 4 in
-        let a = both (some && few) (list_all is_octal_digit digits) e in
-        let b = both some few a.0 in
-        let same : octal_value digits ≡ mode = cc in
-        let small = value_small digits (grind (arith, nat_tests, b.1)) (passes is_octal_digit (λ x. x ≤ 55) digits octal_digit a.1) in
-        subst (λ m. m ≤ 4095) same small
-    | false ↦ λ e f. absurd (cc)
+      | true ↦ λ e f.
+          let some = nat_le 1 (length digits) in
+          let few = nat_le (length digits) 4 in
+          let a = both (some && few) (list_all is_octal_digit digits) e in
+          let b = both some few a.0 in
+          let same : octal_value digits ≡ mode = cc in
+          let small = value_small digits (grind (arith, nat_tests, b.1)) (passes is_octal_digit (λ x. x ≤ 55) digits octal_digit a.1) in
+          subst (λ m. m ≤ 4095) same small
+      | false ↦ λ e f. absurd (cc)
     ] refl h
 
 create_legal : (path : List ℕ) (mode : Option ℕ) (c : Call) → ((m : ℕ) → mode ≡ Some m → m ≤ 4095) → create path mode ≡ Some c → IsScriptCall c
 create_legal path None c small h = absurd (cc)
 create_legal path (Some m) c small h =
     elim (is_path path) as (λ b. is_path path ≡ b → (if b then Some (call.Create path m) else None) ≡ Some c → IsScriptCall c) [
-      true ↦ λ e f. let same : call.Create path m ≡ c = cc in subst IsScriptCall same (path_legal path e, small m refl)
-    | false ↦ λ e f. absurd (cc)
+      | true ↦ λ e f. let same : call.Create path m ≡ c = cc in subst IsScriptCall same (path_legal path e, small m refl)
+      | false ↦ λ e f. absurd (cc)
     ] refl h
 
 pub call_legal : (line : List ℕ) (c : Call) → call_of line ≡ Some c → IsScriptCall c
@@ -101,10 +101,10 @@ call_legal line c h =
     let words = drop 9 line in
     let other : Option Call = if bytes_eq (take 9 line) (codes "0 create ") then create_of words else None in
     elim (bytes_eq line (codes "0 list /")) as (λ b. (if b then Some (call.List (codes "/")) else other) ≡ Some c → IsScriptCall c) [
-      true ↦ λ f. let same : call.List (codes "/") ≡ c = cc in subst IsScriptCall same refl
-    | false ↦ elim (bytes_eq (take 9 line) (codes "0 create ")) as (λ b. (if b then create_of words else None) ≡ Some c → IsScriptCall c) [
-        true ↦ λ f. create_legal (before_first is_space words) (mode_of (after_first is_space words)) c (mode_small (after_first is_space words)) f
-      | false ↦ λ f. absurd (cc)
+      | true ↦ λ f. let same : call.List (codes "/") ≡ c = cc in subst IsScriptCall same refl
+      | false ↦ elim (bytes_eq (take 9 line) (codes "0 create ")) as (λ b. (if b then create_of words else None) ≡ Some c → IsScriptCall c) [
+        | true ↦ λ f. create_legal (before_first is_space words) (mode_of (after_first is_space words)) c (mode_small (after_first is_space words)) f
+        | false ↦ λ f. absurd (cc)
       ]
     ] h
 

@@ -1,9 +1,9 @@
 -- The calls of a script, one line after another.
-use Rattle.std.proofs.Common.{◌≡◌, ℕ, ◌+◌, ◌<◌, ◌≤◌, Bool, true, false, List, [], ◌∷◌, ◌++◌, length, Option, Some, None, Result, Ok, Err, refl, sym, ap, subst, ◌∙◌, arith, append_assoc, length-append, append-nil}
+use Rattle.std.proofs.Common.{◌≡◌, ℕ, ◌+◌, List, [], ◌∷◌, ◌++◌, length, Some, None, Result, Ok, Err, refl, sym, ap, append_assoc, length-append, append-nil}
 use Rattle.vx_base.specs.declared.call.Call.{Call}
 use Rattle.vx_script.specs.declared.script.ScriptRefusal.{ScriptRefusal}
 use Rattle.vx_script.specs.declared.script.ScriptRefusal.TheVariants.{BadLine}
-use Rattle.vx_script.specs.Script.{call_of, lists_with, allowed, joined, prepended, calls_after}
+use Rattle.vx_script.specs.Script.{call_of, lists_with, allowed, prepended, calls_after}
 
 -- these calls, and then those of the result
 abbrev pub with_front : List Call → Result (List Call) ScriptRefusal → Result (List Call) ScriptRefusal

@@ -1,6 +1,6 @@
 -- Texts that are put in pieces.
 use Rattle.std.proofs.Common.{◌≡◌, ℕ, ◌+◌, ◌≤◌, ◌<◌, length, get_or, take, drop, take-append-drop, List, [], ◌∷◌, ◌++◌, refl, sym, ◌∙◌, ap, subst, append_assoc, append-nil, Result, Ok, Err, arith, length-drop, ◌-◌}
-use Rattle.std.specs.Prelude.{MatchResult, map, flat_map}
+use Rattle.std.specs.Prelude.{map, flat_map}
 use Rattle.std.proofs.lemmas.List.{take_more, take_all}
 use Rattle.std.proofs.lemmas.List.Concat.{flat_map-append}
 use Rattle.std.specs.Result.{IsErrAnd}
@@ -25,7 +25,8 @@ puts_all {a} {b} {c} {f} {g} {h} {w} {l} {m} {t} {u} p q = record {
   taken = p.taken ++ q.taken;
   joined = joined_more w t p.taken l u q.taken m p.joined q.joined;
   appended = Appends-trans a b c p.taken q.taken p.appended q.appended;
-  fine = q.fine ∙ p.fine }
+  fine = q.fine ∙ p.fine;
+}
 
 -- a piece, and the next one breaks off
 pub puts_all_part : {a b c : Option (List ℕ)} {f g h : ℕ} {w l t u : List ℕ} → PutsAll a b f g w l t → PutsPart b c g h l u → PutsPart a c f h w (t ++ u)
@@ -35,7 +36,8 @@ puts_all_part {a} {b} {c} {f} {g} {h} {w} {l} {t} {u} p q = record {
   joined = joined_more w t p.taken l u q.taken q.lost p.joined q.joined;
   appended = Appends-trans a b c p.taken q.taken p.appended q.appended;
   later = subst (λ n. n ≤ h) p.fine q.later;
-  rose = subst (λ n. Rose n h) p.fine q.rose }
+  rose = subst (λ n. Rose n h) p.fine q.rose;
+}
 
 -- a piece breaks off, and others would follow
 pub puts_part : {a b : Option (List ℕ)} {f g : ℕ} {w t : List ℕ} (u : List ℕ) → PutsPart a b f g w t → PutsPart a b f g w (t ++ u)
@@ -45,7 +47,8 @@ puts_part {a} {b} {f} {g} {w} {t} u p = record {
   joined = sym (append_assoc w t u) ∙ ap (λ (x : List ℕ). x ++ u) p.joined ∙ append_assoc p.taken p.lost u;
   appended = p.appended;
   later = p.later;
-  rose = p.rose }
+  rose = p.rose;
+}
 
 -- a piece, and then what the last call says
 pub puts_then : {T E : Type 0} {a b : Option (List ℕ)} {f g : ℕ} {w l t : List ℕ} (c : Option (List ℕ)) (h : ℕ) (m u : List ℕ) (r : Result T E)
@@ -77,8 +80,8 @@ pub puts_broken : {X : Type 0} {a b c : Option (List ℕ)} {f g h : ℕ} {w l : 
     → PutsAll a b f g w l (flat_map t (take i xs)) → PutsPart b c g h l (t (get_or xs i d)) → PutsPart a c f h w (flat_map t xs)
 puts_broken {X} {a} {b} {c} {f} {g} {h} {w} {l} t xs i d lt p q =
     let whole : flat_map t xs ≡ (flat_map t (take i xs) ++ t (get_or xs i d)) ++ flat_map t (drop (i + 1) xs) =
-      ap (flat_map t) (sym (take-append-drop (i + 1) xs)) ∙ flat_map-append t (take (i + 1) xs) (drop (i + 1) xs)
-        ∙ ap (λ (x : List ℕ). x ++ flat_map t (drop (i + 1) xs)) (flat_map-take_more t xs i d lt) in
+    ap (flat_map t) (sym (take-append-drop (i + 1) xs)) ∙ flat_map-append t (take (i + 1) xs) (drop (i + 1) xs)
+    ∙ ap (λ (x : List ℕ). x ++ flat_map t (drop (i + 1) xs)) (flat_map-take_more t xs i d lt) in
     subst (PutsPart a c f h w) (sym whole) (puts_part (flat_map t (drop (i + 1) xs)) (puts_all_part p q))
 
 pub flat_map-map : {X Y : Type 0} (t : Y → List ℕ) (h : X → Y) (xs : List X) → flat_map t (map h xs) ≡ flat_map (λ x. t (h x)) xs
@@ -96,4 +99,5 @@ puts_write {a} {b} {f} {g} {piece} {rest} c h n p q e =
       taken = p.taken ++ take n rest;
       joined = p.joined ∙ ap (λ (x : List ℕ). p.taken ++ x) (sym (take-append-drop n rest)) ∙ sym (append_assoc p.taken (take n rest) (drop n rest));
       appended = Appends-trans a b c p.taken (take n rest) p.appended q;
-      fine = e ∙ p.fine })
+      fine = e ∙ p.fine;
+    })

@@ -1,11 +1,11 @@
 -- Lines as they are cut off.
-use Rattle.std.proofs.Common.{◌≡◌, ℕ, ◌+◌, ◌<◌, ◌≤◌, Bool, true, false, cond, List, [], ◌∷◌, length, take, drop, get_or, refl, sym, ap, subst, ◌∙◌, arith, inl, inr}
+use Rattle.std.proofs.Common.{◌≡◌, ℕ, ◌+◌, ◌<◌, ◌≤◌, Bool, true, false, cond, List, [], ◌∷◌, length, refl, sym, ap, subst, ◌∙◌, arith, inl, inr}
 use Rattle.std.specs.List.{slice_split, position_or_len, before_first, after_first}
 use Rattle.std.proofs.lemmas.Bool.{cases_lt}
 use Rattle.std.proofs.lemmas.List.{take_all, drop_all}
 use Rattle.std.proofs.lemmas.List.Elements.{All-from_get_or}
 use Rattle.std.proofs.lemmas.List.Sums.{fails_before_first, prefix_len-le-length}
-use Rattle.std.proofs.lemmas.List.Splits.{slice_split_first, slice_split_none, slice_split-cons_yes, slice_split-cons_no}
+use Rattle.std.proofs.lemmas.List.Splits.{slice_split_first, slice_split_none}
 use Rattle.vx_script.specs.Lines.{is_newline, lines_of, ended_lines}
 
 abbrev HasFirst : List (List ℕ) → Type 0
@@ -44,11 +44,11 @@ lines_of-cut xs h =
     let n = position_or_len is_newline xs in
     let most : n ≤ length xs = prefix_len-le-length _ xs in
     elim (cases_lt n (length xs)) [
-      inl lt ↦ ap ended_lines (slice_split_first is_newline xs 0 lt) ∙ ended_front _ _ (has_first is_newline (after_first is_newline xs))
-    | inr ge ↦
-        let alone : slice_split is_newline xs ≡ xs ∷ [] =
+      | inl lt ↦ ap ended_lines (slice_split_first is_newline xs 0 lt) ∙ ended_front _ _ (has_first is_newline (after_first is_newline xs))
+      | inr ge ↦
+          let alone : slice_split is_newline xs ≡ xs ∷ [] =
           slice_split_none is_newline xs (All-from_get_or (λ x. is_newline x ≡ false) xs 0 (λ k lt. fails_before_first is_newline xs k 0 (omega arith))) in
-        let whole : before_first is_newline xs ≡ xs = take_all n xs ge in
-        let nothing : after_first is_newline xs ≡ [] = drop_all (n + 1) xs (omega arith) in
-        ap ended_lines alone ∙ last_line xs h ∙ sym (ap (λ (l : List ℕ). l ∷ []) whole) ∙ ap (λ (l : List ℕ). before_first is_newline xs ∷ lines_of l) (sym nothing)
+          let whole : before_first is_newline xs ≡ xs = take_all n xs ge in
+          let nothing : after_first is_newline xs ≡ [] = drop_all (n + 1) xs (omega arith) in
+          ap ended_lines alone ∙ last_line xs h ∙ sym (ap (λ (l : List ℕ). l ∷ []) whole) ∙ ap (λ (l : List ℕ). before_first is_newline xs ∷ lines_of l) (sym nothing)
     ]

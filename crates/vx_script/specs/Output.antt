@@ -1,5 +1,5 @@
 -- The output of a mount.
-use Rattle.std.specs.Prelude.{ℕ, ◌+◌, ◌-◌, Bool, true, false, ◌==◌, List, [], ◌∷◌, ◌++◌, length, flat_map, count_by, sum_by, decimal, codes, slice_get, Option, Some, None, zero, suc, if◌then◌else◌}
+use Rattle.std.specs.Prelude.{ℕ, ◌-◌, Bool, true, false, ◌==◌, List, [], ◌∷◌, ◌++◌, length, flat_map, count_by, sum_by, decimal, codes, slice_get, Option, Some, zero, suc, if◌then◌else◌}
 use Rattle.std.specs.List.{list_any}
 use Rattle.vx_base.specs.declared.event.Event.{Event}
 use Rattle.vx_base.specs.declared.event.Event.TheVariants as event
@@ -66,10 +66,10 @@ count_text label n = label ++ decimal n
 abbrev pub summary_text : List Event → List ℕ
 summary_text history =
     ending_text history
-        ++ (count_text (codes " calls=") (count_by is_return history)
-        ++ (count_text (codes " moves=") (count_by is_switch history)
-        ++ (count_text (codes " from=") (sum_by moved_from history)
-        ++ (count_text (codes " to=") (sum_by moved_to history) ++ 10 ∷ []))))
+    ++ (count_text (codes " calls=") (count_by is_return history)
+    ++ (count_text (codes " moves=") (count_by is_switch history)
+    ++ (count_text (codes " from=") (sum_by moved_from history)
+    ++ (count_text (codes " to=") (sum_by moved_to history) ++ 10 ∷ []))))
 
 -- the lines of the sessions 0 to 15, and how the mount ended
 unfoldable pub output_of : List Event → List ℕ

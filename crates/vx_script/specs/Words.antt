@@ -1,5 +1,5 @@
 -- The words of the output.
-use Rattle.std.specs.Prelude.{◌≡◌, ℕ, ◌+◌, ◌-◌, ◌/◌, ◌%◌, Bool, ◌&&◌, not, ◌==◌, nat_le, nat_lt, List, [], ◌∷◌, ◌++◌, flat_map, decimal, codes, bit_and, if◌then◌else◌}
+use Rattle.std.specs.Prelude.{ℕ, ◌+◌, ◌-◌, ◌/◌, ◌%◌, Bool, ◌&&◌, not, ◌==◌, nat_le, nat_lt, List, [], ◌∷◌, ◌++◌, flat_map, decimal, codes, bit_and, if◌then◌else◌}
 use Rattle.vx_script.specs.declared.words.Word.{Word}
 use Rattle.vx_script.specs.declared.words.Word.TheVariants.{Text, Number, Mode, Name, Hex, Flags}
 
@@ -42,11 +42,11 @@ dash_text flags = if bit_and flags 31 == 0 then codes "-" else []
 abbrev pub flags_text : ℕ → List ℕ
 flags_text flags =
     flag_text flags 1 (codes "align")
-        ++ (flag_text flags 2 (codes "contig")
-        ++ (flag_text flags 4 (codes "noextend")
-        ++ (flag_text flags 8 (codes "noreserve")
-        ++ (flag_text flags 16 (codes "trim")
-        ++ dash_text flags))))
+    ++ (flag_text flags 2 (codes "contig")
+    ++ (flag_text flags 4 (codes "noextend")
+    ++ (flag_text flags 8 (codes "noreserve")
+    ++ (flag_text flags 16 (codes "trim")
+    ++ dash_text flags))))
 
 abbrev pub text_of_word : Word → List ℕ
 text_of_word (Text bytes) = bytes.now

@@ -50,10 +50,7 @@ fn is_script_path(path: &[u8]) -> bool
 fn is_script_name(name: &[u8]) -> bool
     ensures { result ≡ is_name name.now }
 {
-    name.len() >= 1
-        && name.len() <= 255
-        && has_name_bytes(name)
-        && !is_one_or_two_dots(name)
+    name.len() >= 1 && name.len() <= 255 && has_name_bytes(name) && !is_one_or_two_dots(name)
 }
 
 fn has_name_bytes(name: &[u8]) -> bool

@@ -25,7 +25,11 @@ pub fn render<K: Sink>(history: &[Event], out: &mut K) -> Result<(), SinkFault>
 }
 
 /// Puts the output, and hands it all to the sink.
-fn put_output<K: Sink>(out: &mut K, buffer: &mut TextBuffer, history: &[Event]) -> Result<(), SinkFault>
+fn put_output<K: Sink>(
+    out: &mut K,
+    buffer: &mut TextBuffer,
+    history: &[Event],
+) -> Result<(), SinkFault>
     requires { length history.now < 2 ^ 32 }
     ensures puts { Puts (K.taken out.old) (K.taken out.new) (K.fault_count out.old) (K.fault_count out.new) buffer.old buffer.new result (output_of history.now) }
     ensures empty { OnOk result (buffer.new ≡ []) }
@@ -35,7 +39,11 @@ fn put_output<K: Sink>(out: &mut K, buffer: &mut TextBuffer, history: &[Event]) 
 }
 
 #[tactic(auto, unfolding(crate::specs::Output::output_of))]
-fn put_lines<K: Sink>(out: &mut K, buffer: &mut TextBuffer, history: &[Event]) -> Result<(), SinkFault>
+fn put_lines<K: Sink>(
+    out: &mut K,
+    buffer: &mut TextBuffer,
+    history: &[Event],
+) -> Result<(), SinkFault>
     requires { length history.now < 2 ^ 32 }
     ensures { Puts (K.taken out.old) (K.taken out.new) (K.fault_count out.old) (K.fault_count out.new) buffer.old buffer.new result (output_of history.now) }
 {
@@ -43,7 +51,11 @@ fn put_lines<K: Sink>(out: &mut K, buffer: &mut TextBuffer, history: &[Event]) -
     put_summary(out, buffer, history)
 }
 
-fn put_sessions<K: Sink>(out: &mut K, buffer: &mut TextBuffer, history: &[Event]) -> Result<(), SinkFault>
+fn put_sessions<K: Sink>(
+    out: &mut K,
+    buffer: &mut TextBuffer,
+    history: &[Event],
+) -> Result<(), SinkFault>
     ensures { Puts (K.taken out.old) (K.taken out.new) (K.fault_count out.old) (K.fault_count out.new) buffer.old buffer.new result (sessions_text history.now 16) }
 {
     for session in 0..SESSIONS {
@@ -52,7 +64,12 @@ fn put_sessions<K: Sink>(out: &mut K, buffer: &mut TextBuffer, history: &[Event]
     Ok(())
 }
 
-fn put_session<K: Sink>(out: &mut K, buffer: &mut TextBuffer, history: &[Event], session: u8) -> Result<(), SinkFault>
+fn put_session<K: Sink>(
+    out: &mut K,
+    buffer: &mut TextBuffer,
+    history: &[Event],
+    session: u8,
+) -> Result<(), SinkFault>
     ensures { Puts (K.taken out.old) (K.taken out.new) (K.fault_count out.old) (K.fault_count out.new) buffer.old buffer.new result (session_text history.now session) }
 {
     for event in history {
@@ -62,7 +79,13 @@ fn put_session<K: Sink>(out: &mut K, buffer: &mut TextBuffer, history: &[Event],
 }
 
 /// Puts the line of an event that is an answer to a call of this session.
-fn put_event<K: Sink>(out: &mut K, buffer: &mut TextBuffer, history: &[Event], session: u8, event: &Event) -> Result<(), SinkFault>
+fn put_event<K: Sink>(
+    out: &mut K,
+    buffer: &mut TextBuffer,
+    history: &[Event],
+    session: u8,
+    event: &Event,
+) -> Result<(), SinkFault>
     ensures { Puts (K.taken out.old) (K.taken out.new) (K.fault_count out.old) (K.fault_count out.new) buffer.old buffer.new result (event_text history.now session event.now) }
 {
     match event {
@@ -75,22 +98,36 @@ fn put_event<K: Sink>(out: &mut K, buffer: &mut TextBuffer, history: &[Event], s
     }
 }
 
-fn put_answer<K: Sink>(out: &mut K, buffer: &mut TextBuffer, session: u8, call: Option<&Event>, answer: &Reply) -> Result<(), SinkFault>
+fn put_answer<K: Sink>(
+    out: &mut K,
+    buffer: &mut TextBuffer,
+    session: u8,
+    call: Option<&Event>,
+    answer: &Reply,
+) -> Result<(), SinkFault>
     ensures { Puts (K.taken out.old) (K.taken out.new) (K.fault_count out.old) (K.fault_count out.new) buffer.old buffer.new result (answer_text session (option_copied call.entry) answer.now) }
 {
     match call {
-        Some(Event::Do {
-            at: _,
-            session: caller,
-            line,
-            call: _,
-            reply: _,
-        }) if *caller == session => put_line(out, buffer, session, *line, answer),
+        Some(
+            Event::Do {
+                at: _,
+                session: caller,
+                line,
+                call: _,
+                reply: _,
+            },
+        ) if *caller == session => put_line(out, buffer, session, *line, answer),
         _ => Ok(()),
     }
 }
 
-fn put_line<K: Sink>(out: &mut K, buffer: &mut TextBuffer, session: u8, line: u32, answer: &Reply) -> Result<(), SinkFault>
+fn put_line<K: Sink>(
+    out: &mut K,
+    buffer: &mut TextBuffer,
+    session: u8,
+    line: u32,
+    answer: &Reply,
+) -> Result<(), SinkFault>
     ensures { Puts (K.taken out.old) (K.taken out.new) (K.fault_count out.old) (K.fault_count out.new) buffer.old buffer.new result (line_text session line answer.now) }
 {
     put_number(out, buffer, session as u64)?;
@@ -99,7 +136,11 @@ fn put_line<K: Sink>(out: &mut K, buffer: &mut TextBuffer, session: u8, line: u3
     put(out, buffer, b"\n")
 }
 
-fn put_summary<K: Sink>(out: &mut K, buffer: &mut TextBuffer, history: &[Event]) -> Result<(), SinkFault>
+fn put_summary<K: Sink>(
+    out: &mut K,
+    buffer: &mut TextBuffer,
+    history: &[Event],
+) -> Result<(), SinkFault>
     requires { length history.now < 2 ^ 32 }
     ensures { Puts (K.taken out.old) (K.taken out.new) (K.fault_count out.old) (K.fault_count out.new) buffer.old buffer.new result (summary_text history.now) }
 {
@@ -111,7 +152,12 @@ fn put_summary<K: Sink>(out: &mut K, buffer: &mut TextBuffer, history: &[Event])
     put(out, buffer, b"\n")
 }
 
-fn put_count<K: Sink>(out: &mut K, buffer: &mut TextBuffer, label: &[u8], n: u64) -> Result<(), SinkFault>
+fn put_count<K: Sink>(
+    out: &mut K,
+    buffer: &mut TextBuffer,
+    label: &[u8],
+    n: u64,
+) -> Result<(), SinkFault>
     ensures { Puts (K.taken out.old) (K.taken out.new) (K.fault_count out.old) (K.fault_count out.new) buffer.old buffer.new result (count_text label.now n) }
 {
     put(out, buffer, label)?;
@@ -152,7 +198,14 @@ fn return_count(history: &[Event]) -> u64
 fn is_return_event(event: &Event) -> bool
     ensures { result ≡ is_return event.now }
 {
-    matches!(event, Event::Ret { at: _, place: _, answer: _ })
+    matches!(
+        event,
+        Event::Ret {
+            at: _,
+            place: _,
+            answer: _
+        }
+    )
 }
 
 fn switch_count(history: &[Event]) -> u64
@@ -170,7 +223,16 @@ fn switch_count(history: &[Event]) -> u64
 fn is_switch_event(event: &Event) -> bool
     ensures { result ≡ is_switch event.now }
 {
-    matches!(event, Event::MoveSwitch { at: _, place: _, ino: _, from: _, to: _ })
+    matches!(
+        event,
+        Event::MoveSwitch {
+            at: _,
+            place: _,
+            ino: _,
+            from: _,
+            to: _
+        }
+    )
 }
 
 fn from_sum(history: &[Event]) -> u64

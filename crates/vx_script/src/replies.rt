@@ -4,17 +4,25 @@ ghost use Rattle.vx_script.specs.Puts.{Puts};
 ghost use Rattle.vx_script.specs.Words.{spaced_name, spaced_list};
 ghost use Rattle.vx_script.specs.Text.{number_of, name_of, fields_of, refusal_words, hex_words, words_of};
 
-use crate::text_buffer::{TextBuffer};
+use crate::text_buffer::TextBuffer;
 use crate::words::{Word, put_spaced, put_words};
 use vx_base::{Name, Refusal, Reply, Sink, SinkFault};
 
 /// Puts the words of a reply, each after a space.
-pub fn put_reply<K: Sink>(out: &mut K, buffer: &mut TextBuffer, reply: &Reply) -> Result<(), SinkFault>
+pub fn put_reply<K: Sink>(
+    out: &mut K,
+    buffer: &mut TextBuffer,
+    reply: &Reply,
+) -> Result<(), SinkFault>
     ensures { Puts (K.taken out.old) (K.taken out.new) (K.fault_count out.old) (K.fault_count out.new) buffer.old buffer.new result (spaced_list (words_of reply.now)) }
 {
     match reply {
         Reply::Fine | Reply::Begun => put_words(out, buffer, &[Word::Text(b"ok")]),
-        Reply::Made { ino } => put_words(out, buffer, &[Word::Text(b"ok"), Word::Number(ino.get() as u64)]),
+        Reply::Made { ino } => put_words(
+            out,
+            buffer,
+            &[Word::Text(b"ok"), Word::Number(ino.get() as u64)],
+        ),
         Reply::FileStat {
             ino,
             mode,
@@ -45,7 +53,11 @@ pub fn put_reply<K: Sink>(out: &mut K, buffer: &mut TextBuffer, reply: &Reply) -
         ),
         Reply::Listing { names } => put_listing(out, buffer, names.as_slice()),
         Reply::Got { bytes } => put_bytes(out, buffer, bytes.as_slice()),
-        Reply::Wrote { len } => put_words(out, buffer, &[Word::Text(b"ok"), Word::Number(*len as u64)]),
+        Reply::Wrote { len } => put_words(
+            out,
+            buffer,
+            &[Word::Text(b"ok"), Word::Number(*len as u64)],
+        ),
         Reply::Ext { attrs } => put_words(
             out,
             buffer,
@@ -56,7 +68,15 @@ pub fn put_reply<K: Sink>(out: &mut K, buffer: &mut TextBuffer, reply: &Reply) -
                 Word::Flags(attrs.flags),
             ],
         ),
-        Reply::Moved { from, to } => put_words(out, buffer, &[Word::Text(b"ok"), Word::Number(*from as u64), Word::Number(*to as u64)]),
+        Reply::Moved { from, to } => put_words(
+            out,
+            buffer,
+            &[
+                Word::Text(b"ok"),
+                Word::Number(*from as u64),
+                Word::Number(*to as u64),
+            ],
+        ),
         Reply::Extents {
             extents,
             pages,
@@ -84,7 +104,11 @@ pub fn put_reply<K: Sink>(out: &mut K, buffer: &mut TextBuffer, reply: &Reply) -
     }
 }
 
-fn put_listing<K: Sink>(out: &mut K, buffer: &mut TextBuffer, names: &[Name]) -> Result<(), SinkFault>
+fn put_listing<K: Sink>(
+    out: &mut K,
+    buffer: &mut TextBuffer,
+    names: &[Name],
+) -> Result<(), SinkFault>
     ensures { Puts (K.taken out.old) (K.taken out.new) (K.fault_count out.old) (K.fault_count out.new) buffer.old buffer.new result (spaced_list (words_of (Reply.Listing names.now))) }
 {
     put_spaced(out, buffer, &Word::Text(b"ok"))?;
@@ -105,13 +129,29 @@ fn put_bytes<K: Sink>(out: &mut K, buffer: &mut TextBuffer, bytes: &[u8]) -> Res
     ensures { Puts (K.taken out.old) (K.taken out.new) (K.fault_count out.old) (K.fault_count out.new) buffer.old buffer.new result (spaced_list (words_of (Reply.Got bytes.now))) }
 {
     if bytes.is_empty() {
-        put_words(out, buffer, &[Word::Text(b"ok"), Word::Number(bytes.len() as u64)])
+        put_words(
+            out,
+            buffer,
+            &[Word::Text(b"ok"), Word::Number(bytes.len() as u64)],
+        )
     } else {
-        put_words(out, buffer, &[Word::Text(b"ok"), Word::Number(bytes.len() as u64), Word::Hex(bytes)])
+        put_words(
+            out,
+            buffer,
+            &[
+                Word::Text(b"ok"),
+                Word::Number(bytes.len() as u64),
+                Word::Hex(bytes),
+            ],
+        )
     }
 }
 
-fn put_refusal<K: Sink>(out: &mut K, buffer: &mut TextBuffer, why: &Refusal) -> Result<(), SinkFault>
+fn put_refusal<K: Sink>(
+    out: &mut K,
+    buffer: &mut TextBuffer,
+    why: &Refusal,
+) -> Result<(), SinkFault>
     ensures { Puts (K.taken out.old) (K.taken out.new) (K.fault_count out.old) (K.fault_count out.new) buffer.old buffer.new result (spaced_list (refusal_words why.now)) }
 {
     put_spaced(out, buffer, &Word::Text(b"no"))?;
@@ -124,18 +164,42 @@ fn put_fields<K: Sink>(out: &mut K, buffer: &mut TextBuffer, why: &Refusal) -> R
     ensures { Puts (K.taken out.old) (K.taken out.new) (K.fault_count out.old) (K.fault_count out.new) buffer.old buffer.new result (spaced_list (map decimal (fields_of why.now))) }
 {
     match why {
-        Refusal::NoSpace { need, free } => put_words(out, buffer, &[Word::Number(*need as u64), Word::Number(*free as u64)]),
+        Refusal::NoSpace { need, free } => put_words(
+            out,
+            buffer,
+            &[Word::Number(*need as u64), Word::Number(*free as u64)],
+        ),
         Refusal::NoInodes { in_use } => put_words(out, buffer, &[Word::Number(*in_use as u64)]),
         Refusal::TooBig { end } => put_words(out, buffer, &[Word::Number(*end)]),
         Refusal::TooManyLinks { nlink } => put_words(out, buffer, &[Word::Number(*nlink as u64)]),
-        Refusal::TooManyOpen { open_now } => put_words(out, buffer, &[Word::Number(*open_now as u64)]),
-        Refusal::NoExtend { reserved_end } => put_words(out, buffer, &[Word::Number(*reserved_end)]),
-        Refusal::NoRun { need, longest } => put_words(out, buffer, &[Word::Number(*need as u64), Word::Number(*longest as u64)]),
+        Refusal::TooManyOpen { open_now } => put_words(
+            out,
+            buffer,
+            &[Word::Number(*open_now as u64)],
+        ),
+        Refusal::NoExtend { reserved_end } => put_words(
+            out,
+            buffer,
+            &[Word::Number(*reserved_end)],
+        ),
+        Refusal::NoRun { need, longest } => put_words(
+            out,
+            buffer,
+            &[Word::Number(*need as u64), Word::Number(*longest as u64)],
+        ),
         Refusal::BadAttr { which } => put_words(out, buffer, &[Word::Number(*which as u64)]),
         Refusal::MapFull { extents } => put_words(out, buffer, &[Word::Number(*extents as u64)]),
-        Refusal::Disabled { write_faults } => put_words(out, buffer, &[Word::Number(*write_faults)]),
+        Refusal::Disabled { write_faults } => put_words(
+            out,
+            buffer,
+            &[Word::Number(*write_faults)],
+        ),
         Refusal::ShrinkInUse { inodes } => put_words(out, buffer, &[Word::Number(*inodes as u64)]),
-        Refusal::DeviceTooSmall { have, want } => put_words(out, buffer, &[Word::Number(*have), Word::Number(*want)]),
+        Refusal::DeviceTooSmall { have, want } => put_words(
+            out,
+            buffer,
+            &[Word::Number(*have), Word::Number(*want)],
+        ),
         Refusal::Cancelled { by } => put_words(out, buffer, &[Word::Number(*by as u64)]),
         Refusal::Gone { ino } => put_words(out, buffer, &[Word::Number(ino.get() as u64)]),
         _ => Ok(()),
@@ -161,7 +225,10 @@ fn number_of_refusal(why: &Refusal) -> u8
         Refusal::IntoItself => 13,
         Refusal::RootFixed => 14,
         Refusal::NoExtend { reserved_end: _ } => 15,
-        Refusal::NoRun { need: _, longest: _ } => 16,
+        Refusal::NoRun {
+            need: _,
+            longest: _,
+        } => 16,
         Refusal::BadAttr { which: _ } => 17,
         Refusal::MapFull { extents: _ } => 18,
         Refusal::ReadFault => 19,
@@ -194,7 +261,10 @@ fn name_of_refusal(why: &Refusal) -> &'static [u8]
         Refusal::IntoItself => b"IntoItself",
         Refusal::RootFixed => b"RootFixed",
         Refusal::NoExtend { reserved_end: _ } => b"NoExtend",
-        Refusal::NoRun { need: _, longest: _ } => b"NoRun",
+        Refusal::NoRun {
+            need: _,
+            longest: _,
+        } => b"NoRun",
         Refusal::BadAttr { which: _ } => b"BadAttr",
         Refusal::MapFull { extents: _ } => b"MapFull",
         Refusal::ReadFault => b"ReadFault",

@@ -36,7 +36,9 @@ impl<T: Drop> From<AllocFailed<T>> for ScriptRefusal {
 }
 
 const MOST_BYTES: usize = 4_194_304;
+
 const MOST_CALLS: usize = 65_535;
+
 const MOST_LISTS: usize = 1_024;
 
 #[tactic(auto, unfolding(crate::specs::Script::script_of, crate::specs::Script::calls_of_lines))]

@@ -22,7 +22,11 @@ pub enum Word<'a> {
 }
 
 /// Puts words, each after a space.
-pub fn put_words<K: Sink>(out: &mut K, buffer: &mut TextBuffer, words: &[Word<'_>]) -> Result<(), SinkFault>
+pub fn put_words<K: Sink>(
+    out: &mut K,
+    buffer: &mut TextBuffer,
+    words: &[Word<'_>],
+) -> Result<(), SinkFault>
     ensures { Puts (K.taken out.old) (K.taken out.new) (K.fault_count out.old) (K.fault_count out.new) buffer.old buffer.new result (spaced_words words.now) }
 {
     for word in words {
@@ -32,14 +36,22 @@ pub fn put_words<K: Sink>(out: &mut K, buffer: &mut TextBuffer, words: &[Word<'_
 }
 
 /// Puts a space and a word.
-pub fn put_spaced<K: Sink>(out: &mut K, buffer: &mut TextBuffer, word: &Word<'_>) -> Result<(), SinkFault>
+pub fn put_spaced<K: Sink>(
+    out: &mut K,
+    buffer: &mut TextBuffer,
+    word: &Word<'_>,
+) -> Result<(), SinkFault>
     ensures { Puts (K.taken out.old) (K.taken out.new) (K.fault_count out.old) (K.fault_count out.new) buffer.old buffer.new result (spaced (text_of_word word.now)) }
 {
     put(out, buffer, b" ")?;
     put_word(out, buffer, word)
 }
 
-pub fn put_word<K: Sink>(out: &mut K, buffer: &mut TextBuffer, word: &Word<'_>) -> Result<(), SinkFault>
+pub fn put_word<K: Sink>(
+    out: &mut K,
+    buffer: &mut TextBuffer,
+    word: &Word<'_>,
+) -> Result<(), SinkFault>
     ensures { Puts (K.taken out.old) (K.taken out.new) (K.fault_count out.old) (K.fault_count out.new) buffer.old buffer.new result (text_of_word word.now) }
 {
     match word {
@@ -104,7 +116,12 @@ fn digit(n: u8) -> u8
 fn octal_digits(mode: u16) -> [u8; 4]
     ensures { result ≡ mode_text mode }
 {
-    [octal_digit(mode / 512), octal_digit(mode / 64), octal_digit(mode / 8), octal_digit(mode)]
+    [
+        octal_digit(mode / 512),
+        octal_digit(mode / 64),
+        octal_digit(mode / 8),
+        octal_digit(mode),
+    ]
 }
 
 /// The last octal digit of a number.
@@ -125,7 +142,13 @@ fn put_flags<K: Sink>(out: &mut K, buffer: &mut TextBuffer, flags: u8) -> Result
     put_dash(out, buffer, flags)
 }
 
-fn put_flag<K: Sink>(out: &mut K, buffer: &mut TextBuffer, flags: u8, bit: u8, name: &[u8]) -> Result<(), SinkFault>
+fn put_flag<K: Sink>(
+    out: &mut K,
+    buffer: &mut TextBuffer,
+    flags: u8,
+    bit: u8,
+    name: &[u8],
+) -> Result<(), SinkFault>
     requires { 1 ≤ bit }
     ensures { Puts (K.taken out.old) (K.taken out.new) (K.fault_count out.old) (K.fault_count out.new) buffer.old buffer.new result (flag_text flags bit name.now) }
 {
@@ -138,7 +161,11 @@ fn put_flag<K: Sink>(out: &mut K, buffer: &mut TextBuffer, flags: u8, bit: u8, n
     }
 }
 
-fn put_after_comma<K: Sink>(out: &mut K, buffer: &mut TextBuffer, name: &[u8]) -> Result<(), SinkFault>
+fn put_after_comma<K: Sink>(
+    out: &mut K,
+    buffer: &mut TextBuffer,
+    name: &[u8],
+) -> Result<(), SinkFault>
     ensures { Puts (K.taken out.old) (K.taken out.new) (K.fault_count out.old) (K.fault_count out.new) buffer.old buffer.new result (44 ∷ name.now) }
 {
     put(out, buffer, b",")?;
@@ -149,5 +176,9 @@ fn put_after_comma<K: Sink>(out: &mut K, buffer: &mut TextBuffer, name: &[u8]) -
 fn put_dash<K: Sink>(out: &mut K, buffer: &mut TextBuffer, flags: u8) -> Result<(), SinkFault>
     ensures { Puts (K.taken out.old) (K.taken out.new) (K.fault_count out.old) (K.fault_count out.new) buffer.old buffer.new result (dash_text flags) }
 {
-    if flags & 31 == 0 { put(out, buffer, b"-") } else { Ok(()) }
+    if flags & 31 == 0 {
+        put(out, buffer, b"-")
+    } else {
+        Ok(())
+    }
 }

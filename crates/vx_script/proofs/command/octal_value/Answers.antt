@@ -1,4 +1,4 @@
-use Rattle.std.proofs.Common.{◌<◌, arith}
+use Rattle.std.proofs.Common.{arith}
 use Rattle.vx_script.proofs.CallLaws.{value_below}
 use Rattle.vx_script.proofs.command.octal_value.Goals as goal
 

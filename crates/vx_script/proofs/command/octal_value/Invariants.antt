@@ -6,4 +6,5 @@ use Rattle.vx_script.proofs.command.octal_value.Given as goal
 abbrev pub invariant-loop-digit : goal.invariant-loop-digit
 invariant-loop-digit l = record {
   value : l.value ≡ octal_value (take l.digit-index l.digits);
-  small : l.value < 8 ^ l.digit-index }
+  small : l.value < 8 ^ l.digit-index;
+}

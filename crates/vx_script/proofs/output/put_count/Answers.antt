@@ -1,4 +1,4 @@
-use Rattle.vx_script.proofs.Pieces.{puts_then, puts_part, puts_all_part, puts_at_err}
+use Rattle.vx_script.proofs.Pieces.{puts_then, puts_part, puts_at_err}
 use Rattle.vx_script.proofs.output.put_count.Goals as goal
 
 pub returns-in_err-put : goal.returns-in_err-put

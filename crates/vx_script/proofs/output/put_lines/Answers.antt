@@ -1,5 +1,5 @@
 use Rattle.vx_script.specs.Output.{output_of}
-use Rattle.vx_script.proofs.Pieces.{puts_then, puts_part, puts_all_part, puts_at_err}
+use Rattle.vx_script.proofs.Pieces.{puts_then, puts_part, puts_at_err}
 use Rattle.vx_script.proofs.output.put_lines.Goals as goal
 
 pub returns-in_err-put_sessions : goal.returns-in_err-put_sessions

@@ -1,4 +1,3 @@
-use Rattle.std.proofs.Common.{◌≡◌, ℕ, ◌+◌, add-one, arith}
 use Rattle.vx_script.specs.Output.{sessions_text}
 use Rattle.vx_script.proofs.Pieces.{puts_none, puts_all, puts_all_part, puts_at_err}
 use Rattle.vx_script.proofs.OutputLaws.{sessions_text-more, sessions_broken}

@@ -7,4 +7,5 @@ use Rattle.vx_script.proofs.output.switch_count.Given as goal
 abbrev pub invariant-loop-event : goal.invariant-loop-event
 invariant-loop-event l = record {
   count : l.count ≡ count_by is_switch (take l.event-index l.history);
-  small : l.count ≤ l.event-index }
+  small : l.count ≤ l.event-index;
+}

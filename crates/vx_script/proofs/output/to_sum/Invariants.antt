@@ -7,4 +7,5 @@ use Rattle.vx_script.proofs.output.to_sum.Given as goal
 abbrev pub invariant-loop-event : goal.invariant-loop-event
 invariant-loop-event l = record {
   sum : l.sum ≡ sum_by moved_to (take l.event-index l.history);
-  small : l.sum ≤ l.event-index * 2 ^ 32 }
+  small : l.sum ≤ l.event-index * 2 ^ 32;
+}

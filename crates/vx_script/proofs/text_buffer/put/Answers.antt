@@ -1,5 +1,4 @@
-use Rattle.std.proofs.Common.{◌≡◌, []}
-use Rattle.vx_script.specs.Puts.{Puts}
+use Rattle.std.proofs.Common.{[]}
 use Rattle.vx_script.proofs.Pieces.{puts_then, puts_part, puts_at_err}
 use Rattle.vx_script.proofs.text_buffer.put.Goals as goal
 

@@ -1,7 +1,6 @@
 use Rattle.std.proofs.Common.{take}
-use Rattle.std.specs.Prelude.{map}
 use Rattle.vx_script.specs.Puts.{PutsAll}
-use Rattle.vx_script.specs.Words.{spaced_words, text_of_word, name_text, hex_text}
+use Rattle.vx_script.specs.Words.{spaced_words}
 use Rattle.vx_script.proofs.words.put_words.Given as goal
 
 -- what was put so far
