@@ -1,0 +1,6 @@
+mod CallLaws
+mod Joins
+mod ScriptLaws
+mod Splits
+mod Pieces
+mod OutputLaws

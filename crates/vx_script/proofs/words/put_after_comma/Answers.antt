@@ -1,0 +1,8 @@
+use Rattle.vx_script.proofs.Pieces.{puts_then, puts_part, puts_at_err}
+use Rattle.vx_script.proofs.words.put_after_comma.Goals as goal
+
+pub returns-in_err-put : goal.returns-in_err-put
+returns-in_err-put g c = puts_at_err _ _ _ c.from_residual.ensures.1 (puts_part _ c.in_err-put.ensures)
+
+pub returns : goal.returns
+returns g c = puts_then _ _ _ _ _ c.in_ok-put.ensures c.put-2.ensures

@@ -1,0 +1,7 @@
+pub mod Lines
+pub mod Script
+pub mod Puts
+pub mod Words
+pub mod Text
+pub mod Output
+pub mod Start

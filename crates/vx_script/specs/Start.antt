@@ -1,0 +1,47 @@
+-- What is printed where a run is refused before its first turn.
+use Rattle.std.specs.Prelude.{ℕ, List, [], ◌∷◌, ◌++◌, map, decimal, codes}
+use Rattle.vx_script.specs.declared.script.ScriptRefusal.{ScriptRefusal}
+use Rattle.vx_script.specs.declared.script.ScriptRefusal.TheVariants as script
+use Rattle.vx_script.specs.declared.start.StartRefusal.{StartRefusal}
+use Rattle.vx_script.specs.declared.start.StartRefusal.TheVariants as start
+use Rattle.vx_script.specs.Words.{spaced, spaced_list}
+
+-- the exit status of the run
+abbrev pub status_of : StartRefusal → ℕ
+status_of start.BadWords = 1
+status_of (start.DeviceTooSmall have want) = 2
+status_of start.TooLong = 3
+status_of (start.BadLine line) = 3
+status_of start.WriteFault = 4
+status_of start.ScriptFault = 7
+status_of start.NoMemory = 6
+
+abbrev pub name_of_start : StartRefusal → List ℕ
+name_of_start start.BadWords = codes "BadWords"
+name_of_start (start.DeviceTooSmall have want) = codes "DeviceTooSmall"
+name_of_start start.TooLong = codes "TooLong"
+name_of_start (start.BadLine line) = codes "BadLine"
+name_of_start start.WriteFault = codes "WriteFault"
+name_of_start start.ScriptFault = codes "ScriptFault"
+name_of_start start.NoMemory = codes "NoMemory"
+
+abbrev pub fields_of_start : StartRefusal → List ℕ
+fields_of_start (start.DeviceTooSmall have want) = have ∷ want ∷ []
+fields_of_start (start.BadLine line) = line ∷ []
+fields_of_start _ = []
+
+abbrev pub refused_line : StartRefusal → List ℕ
+refused_line why =
+    codes "refused"
+    ++ (spaced (decimal (status_of why)) ++ (spaced (name_of_start why) ++ (spaced_list (map decimal (fields_of_start why)) ++ 10 ∷ [])))
+
+-- where memory is short, nothing is printed
+abbrev pub refused_text : StartRefusal → List ℕ
+refused_text start.NoMemory = []
+refused_text why = refused_line why
+
+-- a refused script refuses the run
+abbrev pub start_of : ScriptRefusal → StartRefusal
+start_of script.TooLong = start.TooLong
+start_of (script.BadLine line) = start.BadLine line
+start_of script.NoMemory = start.NoMemory

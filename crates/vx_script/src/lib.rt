@@ -1,0 +1,18 @@
+//! The script's calls, and the output's text.
+#![tactic(auto)]
+
+mod command;
+mod lines;
+mod output;
+mod replies;
+mod script;
+mod start;
+mod text_buffer;
+mod words;
+
+pub use output::render;
+pub use script::{ScriptRefusal, parse, script_law};
+pub use start::{StartRefusal, render_refusal};
+
+#[cfg(test)]
+mod tests;

@@ -1,0 +1,140 @@
+//! Why a run is refused before its first turn.
+ghost use Rattle.std.specs.Prelude.{◌≡◌, [], OnOk, OnErr, map, decimal};
+ghost use Rattle.std.specs.Io.KnownBytes.{Appends};
+ghost use Rattle.vx_base.specs.Faults.{HasCause};
+ghost use Rattle.vx_script.specs.Puts.{AppendsPrefix, Puts};
+ghost use Rattle.vx_script.specs.Words.{spaced_list};
+ghost use Rattle.vx_script.specs.Start.{status_of, name_of_start, fields_of_start, refused_line, refused_text, start_of};
+
+use crate::script::ScriptRefusal;
+use crate::text_buffer::{TextBuffer, flush, put};
+use crate::words::{Word, put_spaced, put_words};
+use vx_base::{Sink, SinkFault};
+
+/// Why a run is refused before its first turn.
+#[derive(Clone, Copy, Debug, PartialEq, Eq)]
+pub enum StartRefusal {
+    /// The words of the command line.
+    BadWords,
+    /// In sectors.
+    DeviceTooSmall { have: u64, want: u64 },
+    /// The script has too many bytes.
+    TooLong,
+    /// A line of the script, counted from 1.
+    BadLine { line: u32 },
+    /// A write of the device failed.
+    WriteFault,
+    /// The script could not be read.
+    ScriptFault,
+    NoMemory,
+}
+
+impl StartRefusal {
+    /// The exit status of the run.
+    pub fn status(&self) -> u8
+        ensures { result ≡ status_of self.now }
+    {
+        match self {
+            StartRefusal::BadWords => 1,
+            StartRefusal::DeviceTooSmall { have: _, want: _ } => 2,
+            StartRefusal::TooLong | StartRefusal::BadLine { line: _ } => 3,
+            StartRefusal::WriteFault => 4,
+            StartRefusal::ScriptFault => 7,
+            StartRefusal::NoMemory => 6,
+        }
+    }
+}
+
+impl From<ScriptRefusal> for StartRefusal {
+    ghost from_gives = { λ why start. start ≡ start_of why };
+
+    fn from(why: ScriptRefusal) -> StartRefusal {
+        match why {
+            ScriptRefusal::TooLong => StartRefusal::TooLong,
+            ScriptRefusal::BadLine { line } => StartRefusal::BadLine { line },
+            ScriptRefusal::NoMemory => StartRefusal::NoMemory,
+        }
+    }
+}
+
+/// Writes the line of a refusal; where memory is short, nothing. At a fault the sink took a first part of it.
+pub fn render_refusal<K: Sink>(why: &StartRefusal, out: &mut K) -> Result<(), SinkFault>
+    ensures ok { OnOk result (Appends (K.taken out.old) (K.taken out.new) (refused_text why.now)) }
+    ensures err { OnErr result (AppendsPrefix (K.taken out.old) (K.taken out.new) (refused_text why.now)) }
+    ensures cause { HasCause (K.fault_count out.old) (K.fault_count out.new) result }
+{
+    let mut buffer = TextBuffer::new();
+    put_refusal_output(out, &mut buffer, why)
+}
+
+/// Puts the line of a refusal, and hands it to the sink.
+fn put_refusal_output<K: Sink>(
+    out: &mut K,
+    buffer: &mut TextBuffer,
+    why: &StartRefusal,
+) -> Result<(), SinkFault>
+    ensures puts { Puts (K.taken out.old) (K.taken out.new) (K.fault_count out.old) (K.fault_count out.new) buffer.old buffer.new result (refused_text why.now) }
+    ensures empty { OnOk result (buffer.new ≡ []) }
+{
+    put_refused_text(out, buffer, why)?;
+    flush(out, buffer)
+}
+
+fn put_refused_text<K: Sink>(
+    out: &mut K,
+    buffer: &mut TextBuffer,
+    why: &StartRefusal,
+) -> Result<(), SinkFault>
+    ensures { Puts (K.taken out.old) (K.taken out.new) (K.fault_count out.old) (K.fault_count out.new) buffer.old buffer.new result (refused_text why.now) }
+{
+    match why {
+        StartRefusal::NoMemory => Ok(()),
+        _ => put_refused_line(out, buffer, why),
+    }
+}
+
+fn put_refused_line<K: Sink>(
+    out: &mut K,
+    buffer: &mut TextBuffer,
+    why: &StartRefusal,
+) -> Result<(), SinkFault>
+    ensures { Puts (K.taken out.old) (K.taken out.new) (K.fault_count out.old) (K.fault_count out.new) buffer.old buffer.new result (refused_line why.now) }
+{
+    put(out, buffer, b"refused")?;
+    put_spaced(out, buffer, &Word::Number(why.status() as u64))?;
+    put_spaced(out, buffer, &Word::Text(name_of_start_refusal(why)))?;
+    put_start_fields(out, buffer, why)?;
+    put(out, buffer, b"\n")
+}
+
+fn put_start_fields<K: Sink>(
+    out: &mut K,
+    buffer: &mut TextBuffer,
+    why: &StartRefusal,
+) -> Result<(), SinkFault>
+    ensures { Puts (K.taken out.old) (K.taken out.new) (K.fault_count out.old) (K.fault_count out.new) buffer.old buffer.new result (spaced_list (map decimal (fields_of_start why.now))) }
+{
+    match why {
+        StartRefusal::DeviceTooSmall { have, want } => put_words(
+            out,
+            buffer,
+            &[Word::Number(*have), Word::Number(*want)],
+        ),
+        StartRefusal::BadLine { line } => put_words(out, buffer, &[Word::Number(*line as u64)]),
+        _ => Ok(()),
+    }
+}
+
+fn name_of_start_refusal(why: &StartRefusal) -> &'static [u8]
+    ensures { result.now ≡ name_of_start why.now }
+{
+    match why {
+        StartRefusal::BadWords => b"BadWords",
+        StartRefusal::DeviceTooSmall { have: _, want: _ } => b"DeviceTooSmall",
+        StartRefusal::TooLong => b"TooLong",
+        StartRefusal::BadLine { line: _ } => b"BadLine",
+        StartRefusal::WriteFault => b"WriteFault",
+        StartRefusal::ScriptFault => b"ScriptFault",
+        StartRefusal::NoMemory => b"NoMemory",
+    }
+}
