@@ -1,6 +1,8 @@
 -- A call and its answer, behind a legal history.
-use Rattle.std.proofs.Common.{◌≡◌, ◌⊎◌, ℕ, ◌+◌, ◌≤◌, Bool, true, false, not, List, [], ◌∷◌, ◌++◌, length, map as mapped, Option, Some, None, refl, sym, ◌∙◌, ap, subst, inl, inr, arith, rules, length-append}
-use Rattle.std.specs.Prelude.{◌&&◌, nat_eq, nat_lt}
+use Rattle.std.proofs.Common.{◌≡◌, ◌⊎◌, ℕ, ◌+◌, ◌≤◌, ◌<◌, Bool, true, false, not, List, [], ◌∷◌, ◌++◌, length, map as mapped, Option, Some, None, refl, sym, ◌∙◌, ap, subst, inl, inr, arith, rules, length-append, append-nil}
+use Rattle.std.proofs.lemmas.List.Elements.{filter_map-append}
+use Rattle.std.proofs.lemmas.Bool.Decides.{nat_tests}
+use Rattle.std.specs.Prelude.{◌&&◌, nat_eq, nat_lt, filter_map}
 use Rattle.std.specs.List.{list_any}
 use Rattle.std.specs.Ordering.{nat_cmp}
 use Rattle.std.specs.FinMap as map
@@ -11,9 +13,9 @@ use Rattle.vx_base.specs.declared.event.Event.TheVariants as event
 use Rattle.vx_base.proofs.Maps.{at_key, taken_back}
 use Rattle.vx_model.specs.State.{State}
 use Rattle.vx_model.specs.Step.{step}
-use Rattle.vx_model.specs.Legal.{World, Waiting, after, after_all, Legal, Allowed, IfThere, is_fault, is_idle, state_after, RetAllowed}
+use Rattle.vx_model.specs.Legal.{World, Waiting, after, after_all, Legal, Allowed, IfThere, is_fault, is_idle, state_after, RetAllowed, line_of}
 use Rattle.vx_model.proofs.Runs.{after_all-append, Legal-push}
-use Rattle.vx_run.specs.Cores.{IsRun, IsReply, beginning}
+use Rattle.vx_run.specs.Cores.{IsRun, IsReply, IsEnded, IsUnmounted, beginning}
 
 abbrev Waits : Type 0
 Waits = map.FinMap nat_cmp Waiting
@@ -98,3 +100,34 @@ run_answered opened h new s s2 call line at later count count2 reply answer run 
       at = facts.3;
       mounted = facts.4;
     })
+
+one_line : (at line : ℕ) (call : Call) (reply : Reply) → 0 < line → filter_map (line_of 0) (begun at line call reply ∷ []) ≡ call ∷ []
+one_line at line call reply some = let test : nat_lt 0 line ≡ true = grind (arith, nat_tests) in rw test refl
+
+-- a line's call is one line more
+pub lines_answered : (h new : List Event) (call : Call) (line at later place : ℕ) (reply answer : Reply) → 0 < line
+    → new ≡ (h ++ begun at line call reply ∷ []) ++ event.Ret later place answer ∷ [] → filter_map (line_of 0) new ≡ filter_map (line_of 0) h ++ call ∷ []
+lines_answered h new call line at later place reply answer some are =
+    let e1 = begun at line call reply in
+    let e2 : Event = event.Ret later place answer in
+    ap (filter_map (line_of 0)) are ∙ filter_map-append (line_of 0) (h ++ e1 ∷ []) (e2 ∷ []) ∙ append-nil (filter_map (line_of 0) (h ++ e1 ∷ []))
+    ∙ filter_map-append (line_of 0) h (e1 ∷ [])
+    ∙ ap (λ (calls : List Call). filter_map (line_of 0) h ++ calls) (one_line at line call reply some)
+
+-- the file system is left clean behind the last call
+module _ (opened : ℕ) (h new : List Event) (s : State) (at count : ℕ) (run : IsRun opened h s count) (low : count ≤ at) (are : new ≡ h ++ event.Unmounted at ∷ []) where
+  last_world : after_all (beginning opened) new ≡ after (after_all (beginning opened) h) (event.Unmounted at)
+  last_world = ap (after_all (beginning opened)) are ∙ after_all-append (beginning opened) h (event.Unmounted at ∷ [])
+
+  pub ended_unmounted : IsEnded opened new
+  ended_unmounted = record {
+    legal = subst (λ (es : List Event). Legal (beginning opened) es) (sym are) (Legal-push (beginning opened) h (event.Unmounted at) run.legal
+      (record { later = omega (arith, run.at, low); mounted = run.mounted; comes = ap (λ (m : Waits). map.len m) run.idle ∙ map.len-empty nat_cmp Waiting }));
+    answered = ap (λ (x : World). x.waiting) last_world ∙ run.idle;
+  }
+
+  pub is_unmounted : IsUnmounted opened new
+  is_unmounted = ap (λ (x : World). x.unmounted) last_world
+
+  pub lines_unmounted : filter_map (line_of 0) new ≡ filter_map (line_of 0) h
+  lines_unmounted = ap (filter_map (line_of 0)) are ∙ filter_map-append (line_of 0) h (event.Unmounted at ∷ []) ∙ append-nil (filter_map (line_of 0) h)

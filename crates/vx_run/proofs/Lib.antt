@@ -9,3 +9,4 @@ pub mod Transactions
 pub mod Blocks
 pub mod Histories
 pub mod Faultless
+pub mod Reading

@@ -52,3 +52,12 @@ pub record IsReply (s : State) (call : Call) (reply : Reply) (new : State) : Typ
 pub record TellsFaults (before now : ℕ) (disabled : Option ℕ) : Type 0 where
   pub none : disabled ≡ None → now ≡ before
   pub some : IsSome disabled → Rose before now
+
+-- a history that goes no further: it is legal, and every call in it is answered
+pub record IsEnded (opened : ℕ) (history : List Event) : Type 0 where
+  pub legal : Legal (beginning opened) history
+  pub answered : (after_all (beginning opened) history).waiting ≡ map.empty
+
+-- the file system was left clean
+abbrev pub IsUnmounted : ℕ → List Event → Type 0
+IsUnmounted opened history = (after_all (beginning opened) history).unmounted ≡ true

@@ -7,3 +7,4 @@ pub mod Journals
 pub mod Replies
 pub mod Cores
 pub mod Words
+pub mod Reads

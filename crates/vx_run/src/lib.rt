@@ -9,6 +9,7 @@ mod kernel;
 mod metadata;
 mod names;
 mod node;
+mod read;
 mod sectors;
 mod table;
 mod words;
