@@ -14,3 +14,6 @@ pub use batch::Batch;
 pub use body::log_length;
 pub use head::head_sector;
 pub use log::Log;
+
+#[cfg(test)]
+mod tests;
