@@ -5,3 +5,7 @@ mod LogLemmas
 mod StageLemmas
 pub mod RunLemmas
 pub mod Bodies
+pub mod Operations
+pub mod Commits
+pub mod HomeWrites
+pub mod Times

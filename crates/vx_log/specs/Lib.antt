@@ -1,3 +1,5 @@
 pub mod Batches
 pub mod Runs
 pub mod Logs
+pub mod Crashes
+pub mod Moments
