@@ -11,11 +11,11 @@ use Rattle.vx_layout.specs.LogForms.{AfterImage}
 use Rattle.vx_log.specs.Batches.{sectors_of, batch_set, IsBatch, HasRoom, IsPlaceOf, StandsAt, LacksAt}
 
 -- the sectors rise, and none is below low
-abbrev RisesFrom : ℕ → List AfterImage → Type 0
+abbrev pub RisesFrom : ℕ → List AfterImage → Type 0
 RisesFrom low [] = Unit {0}
 RisesFrom low (e ∷ es) = (low ≤ e.0) × RisesFrom (e.0 + 1) es
 
-RisesFrom-of : (low : ℕ) (b : List AfterImage) → IsStrictlyIncreasing (sectors_of b) → (0 < length b → low ≤ get_or (sectors_of b) 0 0) → RisesFrom low b
+pub RisesFrom-of : (low : ℕ) (b : List AfterImage) → IsStrictlyIncreasing (sectors_of b) → (0 < length b → low ≤ get_or (sectors_of b) 0 0) → RisesFrom low b
 RisesFrom-of low [] h from = tt
 RisesFrom-of low (e ∷ es) h from =
     let first : low ≤ e.0 = from (omega arith) in

@@ -8,7 +8,7 @@ use Rattle.std.proofs.lemmas.Nat.{div-add-mod'}
 use Rattle.vx_dev.specs.declared.device.Operation.TheVariants.{Put, Barrier}
 use Rattle.vx_dev.specs.declared.device.Operation.{Operation}
 use Rattle.vx_dev.specs.Tape.{Writes, Tape, did, MayHold, Settles}
-use Rattle.vx_dev.proofs.Tapes.{settles_put, settles_put_other}
+use Rattle.vx_dev.proofs.Tapes.{may_less, settles_put, settles_put_other, settles_barrier}
 use Rattle.vx_layout.specs.LogForms.{AfterImage, LogState, log_at, record_sectors, log_sectors, overlay, overlay_all, live}
 use Rattle.vx_log.specs.Crashes.{IsApart, Holds, IsDecided, IsFree, grown, Covers, trimmed, emptied, IsPut, IsCertainBody, IsHome, IsHomeBut}
 use Rattle.vx_log.proofs.Bodies.{length-record}
@@ -102,6 +102,10 @@ module _ (n : ℕ) where
       metadata = λ s x meta may. home s x meta may;
     }
 
+  outside_log : 0 < n → (p u : ℕ) → (u < 4) ⊎ (4 + n ≤ u) → log_at n p ≢ u
+  outside_log some p u (inl low) same = omega (arith, low, same)
+  outside_log some p u (inr high) same = omega (arith, high, same, some)
+
   -- one sector more of a body
   pub put_more : 0 < n → (at : ℕ) (body : List (List ℕ)) (k : ℕ) (t : Tape) → k < n → IsPut n at body k t → IsPut n at body (k + 1) (did (Put (log_at n (at + k)) (get_or body k [])) t)
   put_more some at body k t room put i lt = elim (cases_lt i k) [
@@ -119,6 +123,22 @@ module _ (n : ℕ) where
   put_stays some at body k j t op bytes w le room put i lt =
     let other : log_at n (at + i) ≢ log_at n (at + j) = λ same. apart n (at + i) (at + j) some (omega (arith, lt, le)) (omega (arith, room)) (omega (arith, same)) in
     w.other t (log_at n (at + i)) (get_or body i []) other (put i lt)
+
+  -- so is a sector outside the log
+  pub put_apart : 0 < n → (at : ℕ) (body : List (List ℕ)) (k : ℕ) (t : Tape) (op : Operation) (u : ℕ) (bytes : List ℕ) → Writes op u bytes → (u < 4) ⊎ (4 + n ≤ u) → IsPut n at body k t → IsPut n at body k (did op t)
+  put_apart some at body k t op u bytes w outside put i lt = w.other t (log_at n (at + i)) (get_or body i []) (outside_log some (at + i) u outside) (put i lt)
+
+  pub put_barrier : (at : ℕ) (body : List (List ℕ)) (k : ℕ) (t : Tape) → IsPut n at body k t → IsPut n at body k (did Barrier t)
+  put_barrier at body k t put i lt = settles_barrier t (log_at n (at + i)) (get_or body i []) (put i lt)
+
+  pub certain_apart : 0 < n → (at : ℕ) (body : List (List ℕ)) (t : Tape) (op : Operation) (u : ℕ) (bytes : List ℕ) → Writes op u bytes → (u < 4) ⊎ (4 + n ≤ u) → IsCertainBody n at body t → IsCertainBody n at body (did op t)
+  certain_apart some at body t op u bytes w outside certain i x lt may = elim (w.may t (log_at n (at + i)) x may) [
+    | inl before ↦ certain i x lt before
+    | inr here ↦ absurd (outside_log some (at + i) u outside here.0)
+  ]
+
+  pub certain_barrier : (at : ℕ) (body : List (List ℕ)) (t : Tape) → IsCertainBody n at body t → IsCertainBody n at body (did Barrier t)
+  certain_barrier at body t certain i x lt may = certain i x lt (may_less t (log_at n (at + i)) x may)
 
   pub certain_body : (at : ℕ) (body : List (List ℕ)) (t : Tape) → IsPut n at body (length body) t → IsCertainBody n at body (did Barrier t)
   certain_body at body t put i x lt may = put i lt x may

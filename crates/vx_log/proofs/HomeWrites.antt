@@ -24,9 +24,9 @@ pub stable_other : (r : LogState) (u s : ℕ) (t : Tape) (op : Operation) (bytes
 stable_other r u s t op bytes w other stable x may = elim (w.may t s x may) [ | inl before ↦ stable x before | inr here ↦ absurd (other here.0) ]
 
 -- a sector that the rest of the records decides needs no home
-pub all_home : (n : ℕ) (r : LogState) (front rest : List (List AfterImage)) (t : Tape) → Holds n r t
+pub all_home : (n : ℕ) (r : LogState) (rest : List (List AfterImage)) (t : Tape) → Holds n r t
     → ((s : ℕ) → IsTrue (r.is_metadata s) → ((x : List ℕ) → overlay_all rest s x ≡ overlay_all r.records s x) ⊎ ((x : List ℕ) → MayHold t s x → overlay_all rest s x ≡ r.contents s)) → IsHomeBut r rest t
-all_home n r front rest t h each s x meta may = elim (each s meta) [
+all_home n r rest t h each s x meta may = elim (each s meta) [
   | inl same ↦ same x ∙ h.metadata s x meta may
   | inr home ↦ home x may
 ]
@@ -36,4 +36,11 @@ pub home_free : (n : ℕ) (r : LogState) (t : Tape) (u : ℕ) → 0 < n → Hold
 home_free n r t u some h meta decided = record {
     no_record = λ i lt e. absurd (⊎_elim (λ zero. omega (arith, zero, e)) (λ high. omega (arith, high, e, some)) (h.apart u meta));
     decided = λ _. decided;
+  }
+
+-- a sector that is neither the head sector nor in the log, and holds no metadata
+pub data_free : (n : ℕ) (r : LogState) (u : ℕ) → 0 < n → 4 + n ≤ u → (IsTrue (r.is_metadata u) → ⊥) → IsFree n r u
+data_free n r u some far data_only = record {
+    no_record = λ i lt e. absurd (omega (arith, far, e, some));
+    decided = λ meta. absurd (data_only meta);
   }

@@ -1,5 +1,5 @@
 mod Filling
-mod BatchOrder
+pub mod BatchOrder
 mod Starts
 mod LogLemmas
 mod StageLemmas
@@ -9,3 +9,4 @@ pub mod Operations
 pub mod Commits
 pub mod HomeWrites
 pub mod Times
+pub mod Overlays

@@ -59,6 +59,22 @@ module _ (n : ℕ) where
     either = λ x may. e.either x (may_less t 2 x may);
   }
 
+  pub either_put : (r r2 : LogState) (t : Tape) (op : Operation) (u : ℕ) (bytes : List ℕ) → Writes op u bytes → IsFree n r u → IsFree n r2 u → u ≢ 2 → Either n r r2 t → Either n r r2 (did op t)
+  either_put r r2 t op u bytes w free free2 other e = record {
+    before = holds_put r t op u bytes w free e.before;
+    after = holds_put r2 t op u bytes w free2 e.after;
+    either = λ x may. elim (w.may t 2 x may) [
+      | inl before ↦ e.either x before
+      | inr here ↦ absurd (other (sym here.0))
+    ];
+  }
+
+  pub turns_put : (r r2 : LogState) (t : Tape) (op : Operation) (u : ℕ) (bytes : List ℕ) → Writes op u bytes → IsFree n r u → IsFree n r2 u → u ≢ 2 → Turns n r r2 t → Turns n r r2 (did op t)
+  turns_put r r2 t op u bytes w free free2 other turns = record {
+    reads = either_put r r2 t op u bytes w free free2 other turns.reads;
+    last = w.other t 2 (head_of r2) (λ same. other (sym same)) turns.last;
+  }
+
   -- the head sector is in no record and no metadata
   head_free : (r : LogState) (t : Tape) → Holds n r t → IsFree n r 2
   head_free r t h = record {
