@@ -10,3 +10,4 @@ pub mod Commits
 pub mod HomeWrites
 pub mod Times
 pub mod Overlays
+pub mod StageRuns

@@ -3,3 +3,4 @@ pub mod Runs
 pub mod Logs
 pub mod Crashes
 pub mod Moments
+pub mod Stages
