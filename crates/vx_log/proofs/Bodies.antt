@@ -1,7 +1,7 @@
 -- The log sectors of a batch, one by one.
-use Rattle.std.proofs.Common.{◌≡◌, ◌≢◌, ◌+◌, ◌-◌, ◌*◌, ◌/◌, ◌%◌, ◌<◌, ◌≤◌, ℕ, zero, suc, List, [], ◌∷◌, ◌++◌, length, map, get_or, take, drop, refl, sym, ◌∙◌, ap, subst, arith, min, length-append, length-take, length-drop}
-use Rattle.std.proofs.lemmas.List.{length-map, get_or_append_left, get_or-append-add, take_all, get_or-map, get_or-take, get_or-drop, drop-drop, take_min}
-use Rattle.vx_layout.specs.LogForms.{AfterImage, descriptor, record_sectors, log_sectors, record_count, log_length, records_from, records_of, body_of, overlay, overlay_all}
+use Rattle.std.proofs.Common.{◌≡◌, ◌+◌, ◌-◌, ◌*◌, ◌/◌, ◌%◌, ◌<◌, ◌≤◌, ℕ, zero, suc, List, [], length, map, get_or, take, drop, sym, ◌∙◌, ap, arith, min, length-append, length-take, length-drop}
+use Rattle.std.proofs.lemmas.List.{length-map, get_or_append_left, get_or-append-add, get_or-map, get_or-take, get_or-drop, drop-drop, take_min}
+use Rattle.vx_layout.specs.LogForms.{AfterImage, descriptor, record_sectors, log_sectors, record_count, log_length, records_from, records_of, body_of}
 
 sectors : List AfterImage → List ℕ
 sectors b = map (λ (e : AfterImage). e.0) b

@@ -1,12 +1,12 @@
 -- Committed sectors are written home, after which the tail may move.
-use Rattle.std.proofs.Common.{◌≡◌, ◌≢◌, ◌⊎◌, ◌+◌, ◌%◌, ◌<◌, ◌≤◌, ℕ, List, [], ◌∷◌, sym, ◌∙◌, ap, subst, inl, inr, ⊎_elim, arith}
+use Rattle.std.proofs.Common.{◌≡◌, ◌≢◌, ◌⊎◌, ◌+◌, ◌<◌, ◌≤◌, ℕ, List, ◌∙◌, subst, inl, inr, ⊎_elim, arith}
 use Rattle.std.specs.Prelude.{IsTrue}
 use Rattle.vx_dev.specs.declared.device.Operation.TheVariants.{Put, Barrier}
 use Rattle.vx_dev.specs.declared.device.Operation.{Operation}
 use Rattle.vx_dev.specs.Tape.{Tape, Writes, did, MayHold, Settles}
-use Rattle.vx_dev.proofs.Tapes.{may_put, may_less, settles_put, settles_put_other}
-use Rattle.vx_layout.specs.LogForms.{AfterImage, LogState, overlay_all, live, log_at}
-use Rattle.vx_log.specs.Crashes.{Holds, IsDecided, IsFree, IsHome, IsHomeBut, IsPutHome, IsStableHome}
+use Rattle.vx_dev.proofs.Tapes.{may_less, settles_put, settles_put_other}
+use Rattle.vx_layout.specs.LogForms.{AfterImage, LogState, overlay_all}
+use Rattle.vx_log.specs.Crashes.{Holds, IsDecided, IsFree, IsHomeBut, IsPutHome, IsStableHome}
 
 pub home_put : (r : LogState) (s : ℕ) (t : Tape) (bytes : List ℕ) → bytes ≡ r.contents s → IsPutHome r s (did (Put s bytes) t)
 home_put r s t bytes is = subst (λ (b : List ℕ). Settles (did (Put s bytes) t) s b) is (settles_put t s bytes)
@@ -21,7 +21,7 @@ pub stable_barrier : (r : LogState) (s : ℕ) (t : Tape) → IsStableHome r s t 
 stable_barrier r s t stable x may = stable x (may_less t s x may)
 
 pub stable_other : (r : LogState) (u s : ℕ) (t : Tape) (op : Operation) (bytes : List ℕ) → Writes op u bytes → s ≢ u → IsStableHome r s t → IsStableHome r s (did op t)
-stable_other r u s t op bytes w other stable x may = elim (w.may t s x may) [ | inl before ↦ stable x before | inr here ↦ absurd (other here.0) ]
+stable_other r u s t op bytes w other stable x may = elim (w.may t s x may) [ inl before ↦ stable x before | inr here ↦ absurd (other here.0) ]
 
 -- a sector that the rest of the records decides needs no home
 pub all_home : (n : ℕ) (r : LogState) (rest : List (List AfterImage)) (t : Tape) → Holds n r t
@@ -34,13 +34,13 @@ all_home n r rest t h each s x meta may = elim (each s meta) [
 -- a home that a record names may be written at any time, with whatever bytes
 pub home_free : (n : ℕ) (r : LogState) (t : Tape) (u : ℕ) → 0 < n → Holds n r t → IsTrue (r.is_metadata u) → IsDecided r.records u → IsFree n r u
 home_free n r t u some h meta decided = record {
-    no_record = λ i lt e. absurd (⊎_elim (λ zero. omega (arith, zero, e)) (λ high. omega (arith, high, e, some)) (h.apart u meta));
-    decided = λ _. decided;
-  }
+  no_record = λ i lt e. absurd (⊎_elim (λ zero. omega (arith, zero, e)) (λ high. omega (arith, high, e, some)) (h.apart u meta));
+  decided = λ _. decided;
+}
 
 -- a sector that is neither the head sector nor in the log, and holds no metadata
 pub data_free : (n : ℕ) (r : LogState) (u : ℕ) → 0 < n → 4 + n ≤ u → (IsTrue (r.is_metadata u) → ⊥) → IsFree n r u
 data_free n r u some far data_only = record {
-    no_record = λ i lt e. absurd (omega (arith, far, e, some));
-    decided = λ meta. absurd (data_only meta);
-  }
+  no_record = λ i lt e. absurd (omega (arith, far, e, some));
+  decided = λ meta. absurd (data_only meta);
+}

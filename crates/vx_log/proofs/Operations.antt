@@ -1,11 +1,11 @@
 -- What each operation on the device does to what its images are read as.
-use Rattle.std.proofs.Common.{◌≡◌, ◌≢◌, ◌⊎◌, ◌+◌, ◌%◌, ◌≤◌, ◌<◌, ℕ, Bool, List, [], ◌∷◌, length, get_or, sym, ◌∙◌, subst, inl, inr, ⊎_elim, arith}
+use Rattle.std.proofs.Common.{◌≡◌, ◌≢◌, ◌⊎◌, ◌+◌, ℕ, List, sym, ◌∙◌, subst, inl, inr, ⊎_elim, arith}
 use Rattle.std.specs.Prelude.{IsTrue}
 use Rattle.vx_dev.specs.declared.device.Operation.TheVariants.{Put, Barrier}
 use Rattle.vx_dev.specs.declared.device.Operation.{Operation}
-use Rattle.vx_dev.specs.Tape.{Writes, Tape, did, MayHold, IsImage, now}
+use Rattle.vx_dev.specs.Tape.{Writes, Tape, did, IsImage, now}
 use Rattle.vx_dev.proofs.Tapes.{may_now, may_less, put_writes, settles_put}
-use Rattle.vx_layout.specs.LogForms.{LogState, log_at, overlay_all, head_of, live, ReadsAs}
+use Rattle.vx_layout.specs.LogForms.{LogState, log_at, head_of, ReadsAs}
 use Rattle.vx_log.specs.Crashes.{Holds, Stands, Either, Turns, IsDecided, IsFree}
 
 module _ (n : ℕ) where

@@ -1,9 +1,9 @@
 -- Runs of operations.
-use Rattle.std.proofs.Common.{◌≡◌, ◌+◌, ◌-◌, ◌≤◌, ◌<◌, ◌%◌, ℕ, zero, suc, List, [], ◌∷◌, ◌++◌, length, take, drop, get_or, refl, sym, ◌∙◌, ap, subst, inl, inr, ⊎_elim, arith, append_assoc, length-append}
-use Rattle.std.specs.Prelude.{option_map, Option, Some, None, Result, Ok, Err, OnErr, slice_range}
-use Rattle.std.proofs.lemmas.List.{append-nil, take_all, take-take, get_or-take, get_or-drop, length-take-le}
+use Rattle.std.proofs.Common.{◌≡◌, ◌+◌, ◌<◌, ℕ, zero, suc, List, [], ◌∷◌, ◌++◌, length, take, get_or, refl, sym, ◌∙◌, ap, subst, inl, inr, ⊎_elim, arith, append_assoc, length-append}
+use Rattle.std.specs.Prelude.{option_map, Option, Some, None}
+use Rattle.std.proofs.lemmas.List.{append-nil}
 use Rattle.vx_dev.specs.declared.device.Operation.{Operation}
-use Rattle.vx_dev.specs.declared.device.Operation.TheVariants.{Put, Barrier}
+use Rattle.vx_dev.specs.declared.device.Operation.TheVariants.{Put}
 use Rattle.vx_dev.specs.Tape.{Tape, State, Did, DidNothing, Failed, did}
 use Rattle.vx_layout.specs.LogForms.{log_at}
 use Rattle.vx_log.specs.Runs.{did_all, Ran, puts, BrokeOff, log_writes}

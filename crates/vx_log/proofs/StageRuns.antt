@@ -1,16 +1,16 @@
 -- Stages of several operations on a device that is lent: what each operation keeps, the stage keeps, whole or broken off.
-use Rattle.std.proofs.Common.{◌≡◌, ◌≢◌, ◌⊎◌, ◌+◌, ◌-◌, ◌≤◌, ◌<◌, ◌%◌, ℕ, zero, suc, List, [], ◌∷◌, ◌++◌, length, take, drop, get_or, refl, sym, ◌∙◌, ap, subst, inl, inr, ⊎_elim, arith, append_assoc, length-take, length-drop}
-use Rattle.std.specs.Prelude.{option_map, Option, Some, None, IfSome, IsTrue, slice_range}
+use Rattle.std.proofs.Common.{◌≡◌, ◌≢◌, ◌+◌, ◌-◌, ◌≤◌, ◌<◌, ℕ, zero, suc, List, [], ◌∷◌, ◌++◌, length, take, drop, get_or, sym, ◌∙◌, ap, subst, inl, inr, ⊎_elim, arith, append_assoc, length-take, length-drop}
+use Rattle.std.specs.Prelude.{option_map, Option, Some, None, IfSome, slice_range}
 use Rattle.std.proofs.lemmas.Bool.{cases_lt, cases_eq}
 use Rattle.std.proofs.lemmas.List.{append-nil, take_all, take_more, get_or_default, get_or-take, get_or-drop}
 use Rattle.vx_dev.specs.declared.device.Operation.{Operation}
-use Rattle.vx_dev.specs.declared.device.Operation.TheVariants.{Put, Barrier}
+use Rattle.vx_dev.specs.declared.device.Operation.TheVariants.{Put}
 use Rattle.vx_dev.specs.Tape.{Tape, State, did, tried, IsImage}
 use Rattle.vx_dev.proofs.Tapes.{put_writes, tried_writes}
 use Rattle.vx_layout.specs.LogForms.{LogState, log_at, live}
 use Rattle.vx_log.specs.Runs.{did_all, Ran, puts, BrokeOff, log_writes}
-use Rattle.vx_log.specs.Crashes.{Stands, IsPut, IsFree, IsPutHome}
-use Rattle.vx_log.specs.Moments.{Told, Past}
+use Rattle.vx_log.specs.Crashes.{Stands, IsFree, IsPutHome}
+use Rattle.vx_log.specs.Moments.{Told}
 use Rattle.vx_log.specs.Stages.{Putting, AreHomes, WritingHome}
 use Rattle.vx_log.proofs.Operations.{stands_put}
 use Rattle.vx_log.proofs.Commits.{put_more, put_stays, body_free}
@@ -28,15 +28,15 @@ module _ (K : ℕ → Tape → Type 0) (writes : List (ℕ × List ℕ)) (d : �
   pub front_keeps : (k : ℕ) (t : Tape) → k ≤ length writes → K 0 t → K k (did_all (take k (puts writes)) t)
   front_keeps zero t le h = subst (λ (l : List Operation). K 0 (record { start = t.start; ops = l })) (sym (append-nil t.ops)) h
   front_keeps (suc k) t le h =
-    let before : K k (did_all (take k (puts writes)) t) = front_keeps k t (omega (arith, le)) h in
-    let w : ℕ × List ℕ = get_or writes k d in
-    let one : K (k + 1) (did (Put w.0 w.1) (did_all (take k (puts writes)) t)) = step k (did_all (take k (puts writes)) t) (omega (arith, le)) before in
-    let next : k + 1 ≡ suc k = omega arith in
-    let more : take (k + 1) (puts writes) ≡ take k (puts writes) ++ Put w.0 w.1 ∷ [] =
+      let before : K k (did_all (take k (puts writes)) t) = front_keeps k t (omega (arith, le)) h in
+      let w : ℕ × List ℕ = get_or writes k d in
+      let one : K (k + 1) (did (Put w.0 w.1) (did_all (take k (puts writes)) t)) = step k (did_all (take k (puts writes)) t) (omega (arith, le)) before in
+      let next : k + 1 ≡ suc k = omega arith in
+      let more : take (k + 1) (puts writes) ≡ take k (puts writes) ++ Put w.0 w.1 ∷ [] =
       take-puts (k + 1) writes ∙ ap puts (take_more writes k d (omega (arith, le))) ∙ puts-push (take k writes) w ∙ ap (λ (l : List Operation). l ++ Put w.0 w.1 ∷ []) (sym (take-puts k writes)) in
-    subst (λ (j : ℕ). K j (did_all (take j (puts writes)) t)) next
+      subst (λ (j : ℕ). K j (did_all (take j (puts writes)) t)) next
       (subst (λ (l : List Operation). K (k + 1) (did_all l t)) (sym more)
-        (subst (λ (l : List Operation). K (k + 1) (record { start = t.start; ops = l })) (append_assoc t.ops (take k (puts writes)) (Put w.0 w.1 ∷ [])) one))
+      (subst (λ (l : List Operation). K (k + 1) (record { start = t.start; ops = l })) (append_assoc t.ops (take k (puts writes)) (Put w.0 w.1 ∷ [])) one))
 
   pub run_keeps : (t : Tape) → K 0 t → K (length writes) (did_all (puts writes) t)
   run_keeps t h = subst (λ (l : List Operation). K (length writes) (did_all l t)) (take_all (length writes) (puts writes) (omega (arith, length-puts writes))) (front_keeps (length writes) t (omega arith) h)
@@ -49,16 +49,16 @@ module _ (K : ℕ → Tape → Type 0) (writes : List (ℕ × List ℕ)) (d : �
   pub broken_keeps : (F : Tape → Type 0) → ((i : ℕ) (t : Tape) → i < length writes → K i t → F (did (tried (get_or writes i d).0 (get_or writes i d).1) t)) → ((i : ℕ) (t : Tape) → i < length writes → K i t → F t)
       → (old new : State) → BrokeOff writes old new → Told old (K 0) → Told new F
   broken_keeps F failed stopped old new b h =
-    let k : ℕ = b.k in
-    let ops : List Operation = take k (puts writes) in
-    let w : ℕ × List ℕ = get_or writes k d in
-    let le : k ≤ length writes = omega (arith, b.within) in
-    let same : w ≡ b.failed = get_or_default writes k d b.failed b.within ∙ b.failed_is in
-    ⊎_elim
+      let k : ℕ = b.k in
+      let ops : List Operation = take k (puts writes) in
+      let w : ℕ × List ℕ = get_or writes k d in
+      let le : k ≤ length writes = omega (arith, b.within) in
+      let same : w ≡ b.failed = get_or_default writes k d b.failed b.within ∙ b.failed_is in
+      ⊎_elim
       (λ (ran : Ran (ops ++ tried b.failed.0 b.failed.1 ∷ []) old new). told_ran (ops ++ tried b.failed.0 b.failed.1 ∷ []) old.told new.told (K 0) F ran.told (λ t kept.
-        let one : F (did (tried w.0 w.1) (did_all ops t)) = failed k (did_all ops t) b.within (front_keeps k t le kept) in
-        let other : F (did (tried b.failed.0 b.failed.1) (did_all ops t)) = subst (λ (v : ℕ × List ℕ). F (did (tried v.0 v.1) (did_all ops t))) same one in
-        subst (λ (l : List Operation). F (record { start = t.start; ops = l })) (append_assoc t.ops ops (tried b.failed.0 b.failed.1 ∷ [])) other) h)
+      let one : F (did (tried w.0 w.1) (did_all ops t)) = failed k (did_all ops t) b.within (front_keeps k t le kept) in
+      let other : F (did (tried b.failed.0 b.failed.1) (did_all ops t)) = subst (λ (v : ℕ × List ℕ). F (did (tried v.0 v.1) (did_all ops t))) same one in
+      subst (λ (l : List Operation). F (record { start = t.start; ops = l })) (append_assoc t.ops ops (tried b.failed.0 b.failed.1 ∷ [])) other) h)
       (λ (ran : Ran ops old new). told_ran ops old.told new.told (K 0) F ran.told (λ t kept. stopped k (did_all ops t) b.within (front_keeps k t le kept)) h)
       b.ran
 
@@ -80,28 +80,28 @@ module _ (n : ℕ) (some : 0 < n) (r : LogState) (body : List (List ℕ)) (room 
 
   write_is : (i : ℕ) → i < length range_writes → get_or range_writes i no_write ≡ (log_at n (r.head + (from + i)), get_or body (from + i) [])
   write_is i lt =
-    let place : r.head + from + i ≡ r.head + (from + i) = omega arith in
-    get_or-log_writes i n (r.head + from) range no_write (omega (arith, lt, length-log_writes n (r.head + from) range))
-    ∙ ap (λ (p : ℕ). (log_at n p, get_or range i [])) place
-    ∙ ap (λ (x : List ℕ). (log_at n (r.head + (from + i)), x)) (get_or-take (end - from) (drop from body) i [] (omega (arith, lt, length-writes)) ∙ get_or-drop from body i [])
+      let place : r.head + from + i ≡ r.head + (from + i) = omega arith in
+      get_or-log_writes i n (r.head + from) range no_write (omega (arith, lt, length-log_writes n (r.head + from) range))
+      ∙ ap (λ (p : ℕ). (log_at n p, get_or range i [])) place
+      ∙ ap (λ (x : List ℕ). (log_at n (r.head + (from + i)), x)) (get_or-take (end - from) (drop from body) i [] (omega (arith, lt, length-writes)) ∙ get_or-drop from body i [])
 
   abbrev Kept : ℕ → Tape → Type 0
   Kept i t = Putting n r body first P (from + i) t
 
   one : (i : ℕ) (t : Tape) → i < length range_writes → Kept i t → Kept (i + 1) (did (Put (get_or range_writes i no_write).0 (get_or range_writes i no_write).1) t)
   one i t lt kept =
-    let k : ℕ = from + i in
-    let u : ℕ = log_at n (r.head + k) in
-    let bytes : List ℕ = get_or body k [] in
-    let ends : r.head ≡ r.tail + length (live r) = kept.stands.holds.ends in
-    let inside : k < length body = omega (arith, lt, length-writes, order, within) in
-    let done : Putting n r body first P (k + 1) (did (Put u bytes) t) = record {
+      let k : ℕ = from + i in
+      let u : ℕ = log_at n (r.head + k) in
+      let bytes : List ℕ = get_or body k [] in
+      let ends : r.head ≡ r.tail + length (live r) = kept.stands.holds.ends in
+      let inside : k < length body = omega (arith, lt, length-writes, order, within) in
+      let done : Putting n r body first P (k + 1) (did (Put u bytes) t) = record {
         stands = stands_put n r t (Put u bytes) u bytes (put_writes u bytes) (body_free n some r t kept.stands.holds k (omega (arith, room, inside))) (λ same. absurd (omega (arith, same))) kept.stands;
         put = put_more n some r.head body k t (omega (arith, room, inside, ends)) kept.put;
         past = past_did first P t (Put u bytes) kept.past (shows t kept.stands);
       } in
-    let next : k + 1 ≡ from + (i + 1) = omega arith in
-    subst (λ (w : ℕ × List ℕ). Kept (i + 1) (did (Put w.0 w.1) t)) (sym (write_is i lt)) (subst (λ (j : ℕ). Putting n r body first P j (did (Put u bytes) t)) next done)
+      let next : k + 1 ≡ from + (i + 1) = omega arith in
+      subst (λ (w : ℕ × List ℕ). Kept (i + 1) (did (Put w.0 w.1) t)) (sym (write_is i lt)) (subst (λ (j : ℕ). Putting n r body first P j (did (Put u bytes) t)) next done)
 
   -- at a fault the stage counts as not begun
   fewer : (i : ℕ) (t : Tape) → Kept i t → Putting n r body first P from t
@@ -109,18 +109,18 @@ module _ (n : ℕ) (some : 0 < n) (r : LogState) (body : List (List ℕ)) (room 
 
   failed_one : (i : ℕ) (t : Tape) → i < length range_writes → Kept i t → Putting n r body first P from (did (tried (get_or range_writes i no_write).0 (get_or range_writes i no_write).1) t)
   failed_one i t lt kept =
-    let k : ℕ = from + i in
-    let u : ℕ = log_at n (r.head + k) in
-    let bytes : List ℕ = get_or body k [] in
-    let ends : r.head ≡ r.tail + length (live r) = kept.stands.holds.ends in
-    let inside : k < length body = omega (arith, lt, length-writes, order, within) in
-    let old : Putting n r body first P from t = fewer i t kept in
-    let done : Putting n r body first P from (did (tried u bytes) t) = record {
+      let k : ℕ = from + i in
+      let u : ℕ = log_at n (r.head + k) in
+      let bytes : List ℕ = get_or body k [] in
+      let ends : r.head ≡ r.tail + length (live r) = kept.stands.holds.ends in
+      let inside : k < length body = omega (arith, lt, length-writes, order, within) in
+      let old : Putting n r body first P from t = fewer i t kept in
+      let done : Putting n r body first P from (did (tried u bytes) t) = record {
         stands = stands_put n r t (tried u bytes) u bytes (tried_writes u bytes) (body_free n some r t kept.stands.holds k (omega (arith, room, inside))) (λ same. absurd (omega (arith, same))) kept.stands;
         put = put_stays n some r.head body from k t (tried u bytes) bytes (tried_writes u bytes) (omega arith) (omega (arith, room, inside, ends)) old.put;
         past = past_did first P t (tried u bytes) kept.past (shows t kept.stands);
       } in
-    subst (λ (w : ℕ × List ℕ). Putting n r body first P from (did (tried w.0 w.1) t)) (sym (write_is i lt)) done
+      subst (λ (w : ℕ × List ℕ). Putting n r body first P from (did (tried w.0 w.1) t)) (sym (write_is i lt)) done
 
   start : (t : Tape) → Putting n r body first P from t → Kept 0 t
   start t p = let same : from ≡ from + 0 = omega arith in subst (λ (j : ℕ). Putting n r body first P j t) same p
@@ -159,20 +159,20 @@ module _ (n : ℕ) (some : 0 < n) (r : LogState) (writes : List (ℕ × List ℕ
 
   home_one : (i : ℕ) (t : Tape) → i < length writes → WritingHome n r writes first P i t → WritingHome n r writes first P (i + 1) (did (Put (get_or writes i nothing).0 (get_or writes i nothing).1) t)
   home_one i t lt kept =
-    let u : ℕ = (get_or writes i nothing).0 in
-    let bytes : List ℕ = (get_or writes i nothing).1 in
-    record {
-      stands = stands_put n r t (Put u bytes) u bytes (put_writes u bytes) (free i t lt kept.stands) (not_head i t lt kept.stands) kept.stands;
-      home = λ j d below. elim (cases_lt j i) [
-        | inl old ↦ stays_home i j d t lt (kept.home j d old)
-        | inr new ↦
-            let same : i ≡ j = omega (arith, below, new) in
-            let put : IsPutHome r u (did (Put u bytes) t) = home_put r u t bytes (homes.contents i nothing lt) in
-            let at_d : IsPutHome r (get_or writes i d).0 (did (Put u bytes) t) = subst (λ (w : ℕ × List ℕ). IsPutHome r w.0 (did (Put u bytes) t)) (get_or_default writes i nothing d lt) put in
-            subst (λ (m : ℕ). IsPutHome r (get_or writes m d).0 (did (Put u bytes) t)) same at_d
-      ];
-      past = past_did first P t (Put u bytes) kept.past (shows t kept.stands);
-    }
+      let u : ℕ = (get_or writes i nothing).0 in
+      let bytes : List ℕ = (get_or writes i nothing).1 in
+      record {
+        stands = stands_put n r t (Put u bytes) u bytes (put_writes u bytes) (free i t lt kept.stands) (not_head i t lt kept.stands) kept.stands;
+        home = λ j d below. elim (cases_lt j i) [
+          | inl old ↦ stays_home i j d t lt (kept.home j d old)
+          | inr new ↦
+              let same : i ≡ j = omega (arith, below, new) in
+              let put : IsPutHome r u (did (Put u bytes) t) = home_put r u t bytes (homes.contents i nothing lt) in
+              let at_d : IsPutHome r (get_or writes i d).0 (did (Put u bytes) t) = subst (λ (w : ℕ × List ℕ). IsPutHome r w.0 (did (Put u bytes) t)) (get_or_default writes i nothing d lt) put in
+              subst (λ (m : ℕ). IsPutHome r (get_or writes m d).0 (did (Put u bytes) t)) same at_d
+        ];
+        past = past_did first P t (Put u bytes) kept.past (shows t kept.stands);
+      }
 
   pub home_stage : (old new : State) → Ran (puts writes) old new → Told old (WritingHome n r writes first P 0) → Told new (WritingHome n r writes first P (length writes))
   home_stage old new ran h = stage_keeps (WritingHome n r writes first P) writes nothing home_one old new ran h
@@ -180,14 +180,14 @@ module _ (n : ℕ) (some : 0 < n) (r : LogState) (writes : List (ℕ × List ℕ
   -- at a fault the stage counts as not begun
   home_failed : (i : ℕ) (t : Tape) → i < length writes → WritingHome n r writes first P i t → WritingHome n r writes first P 0 (did (tried (get_or writes i nothing).0 (get_or writes i nothing).1) t)
   home_failed i t lt kept =
-    let u : ℕ = (get_or writes i nothing).0 in
-    let bytes : List ℕ = (get_or writes i nothing).1 in
-    record {
-      stands = stands_put n r t (tried u bytes) u bytes (tried_writes u bytes) (free i t lt kept.stands) (not_head i t lt kept.stands) kept.stands;
-      home = λ j d below. absurd (omega (arith, below));
-      past = past_did first P t (tried u bytes) kept.past (shows t kept.stands);
-    }
+      let u : ℕ = (get_or writes i nothing).0 in
+      let bytes : List ℕ = (get_or writes i nothing).1 in
+      record {
+        stands = stands_put n r t (tried u bytes) u bytes (tried_writes u bytes) (free i t lt kept.stands) (not_head i t lt kept.stands) kept.stands;
+        home = λ j d below. absurd (omega (arith, below));
+        past = past_did first P t (tried u bytes) kept.past (shows t kept.stands);
+      }
 
   pub home_broken : (old new : State) → BrokeOff writes old new → Told old (WritingHome n r writes first P 0) → Told new (WritingHome n r writes first P 0)
   home_broken old new b h = broken_keeps (WritingHome n r writes first P) writes nothing home_one (WritingHome n r writes first P 0) home_failed
-    (λ i t lt kept. record { stands = kept.stands; home = λ j d below. absurd (omega (arith, below)); past = kept.past }) old new b h
+      (λ i t lt kept. record { stands = kept.stands; home = λ j d below. absurd (omega (arith, below)); past = kept.past }) old new b h

@@ -1,5 +1,5 @@
 -- How a claim on every moment goes on from one operation to the next.
-use Rattle.std.proofs.Common.{◌≡◌, ◌+◌, ◌≤◌, ◌<◌, ℕ, List, [], ◌∷◌, ◌++◌, length, sym, subst, inl, inr, arith}
+use Rattle.std.proofs.Common.{◌≡◌, ◌+◌, ℕ, List, length, sym, subst, inl, inr, arith}
 use Rattle.std.proofs.lemmas.Bool.{cases_lt}
 use Rattle.vx_dev.specs.declared.device.Operation.{Operation}
 use Rattle.vx_dev.specs.Tape.{Tape, did, upto, MayHold, IsImage}
@@ -12,11 +12,11 @@ past_did first P t op past present m from before image is =
     let length_is : length (did op t).ops ≡ length t.ops + 1 = length-did t op in
     let moves : IsImage (upto m t) image = subst (λ (u : Tape). IsImage u image) (upto-did t m op (omega (arith, before, length_is))) is in
     elim (cases_lt m (length t.ops)) [
-    | inl old ↦ past m from old image moves
-    | inr new ↦
-        let same : length t.ops ≡ m = omega (arith, before, length_is, new) in
-        let now_is : IsImage t image = λ s. may_upto t s (image s) (subst (λ (k : ℕ). MayHold (upto k t) s (image s)) (sym same) (moves s)) in
-        subst (λ (k : ℕ). P k image) same (present image now_is)
+      | inl old ↦ past m from old image moves
+      | inr new ↦
+          let same : length t.ops ≡ m = omega (arith, before, length_is, new) in
+          let now_is : IsImage t image = λ s. may_upto t s (image s) (subst (λ (k : ℕ). MayHold (upto k t) s (image s)) (sym same) (moves s)) in
+          subst (λ (k : ℕ). P k image) same (present image now_is)
     ]
 
 -- with this moment, that is every moment

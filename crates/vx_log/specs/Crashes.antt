@@ -1,5 +1,5 @@
 -- What the images that a crash may leave are read as, from one operation to the next.
-use Rattle.std.specs.Prelude.{◌≡◌, ◌≢◌, ◌⊎◌, ◌<◌, ◌≤◌, ◌+◌, ℕ, Bool, IsTrue, List, [], ◌∷◌, ◌++◌, length, get_or}
+use Rattle.std.specs.Prelude.{◌≡◌, ◌≢◌, ◌⊎◌, ◌<◌, ◌≤◌, ◌+◌, ℕ, Bool, IsTrue, List, [], ◌++◌, length, get_or}
 use Rattle.vx_dev.specs.Tape.{Tape, MayHold, Settles}
 use Rattle.vx_layout.specs.LogForms.{AfterImage, LogState, log_at, log_sectors, overlay_all, head_of, live}
 use Rattle.vx_log.specs.Logs.{IsHomeSector, next_serial}

@@ -1,5 +1,5 @@
 -- What is known of the device while a batch is written and while sectors are written home.
-use Rattle.std.specs.Prelude.{◌≡◌, ◌⊎◌, ◌<◌, ◌≤◌, ◌+◌, ℕ, IsTrue, List, [], ◌∷◌, length, map, take, get_or, Contains}
+use Rattle.std.specs.Prelude.{◌≡◌, ◌<◌, ℕ, IsTrue, List, length, get_or}
 use Rattle.vx_dev.specs.Tape.{Tape}
 use Rattle.vx_layout.specs.LogForms.{LogState}
 use Rattle.vx_log.specs.Crashes.{Stands, IsDecided, IsPut, IsPutHome}

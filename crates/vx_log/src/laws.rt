@@ -18,8 +18,7 @@ pub fn batch_laws()
     ensures lacks { (batch : List AfterImage) (s : ℕ) (x : List ℕ) → (Contains (sectors_of batch) s → ⊥) → overlay batch s x ≡ x }
     ensures decides { (batch : List AfterImage) (s : ℕ) → Contains (sectors_of batch) s → IsDecided (records_of batch) s }
     ensures length { (position : ℕ) (batch : List AfterImage) → length (body_of position batch) ≡ log_length (length batch) }
-{
-}
+{}
 
 /// What an image that a crash may leave is read as.
 pub fn image_laws()
@@ -27,8 +26,7 @@ pub fn image_laws()
     ensures either { (n : ℕ) (r r2 : LogState) (t : Tape) (image : ℕ → List ℕ) → Either n r r2 t → IsImage t image → ReadsAs n r image ⊎ ReadsAs n r2 image }
     ensures written { (n : ℕ) (r : LogState) (t : Tape) (op : Operation) (u : ℕ) (bytes : List ℕ) → Writes op u bytes → IsFree n r u → u ≢ 2 → Stands n r t → Stands n r (did op t) }
     ensures barrier { (n : ℕ) (r : LogState) (t : Tape) → Stands n r t → Stands n r (did Barrier t) }
-{
-}
+{}
 
 /// A batch's log sectors are written, one by one and in stages, and a barrier passes behind them.
 pub fn body_laws()
@@ -42,8 +40,7 @@ pub fn body_laws()
         → BrokeOff (log_writes n (r.head + from) (slice_range body from end)) old new
         → Told old (Putting n r body first (λ _ image. ReadsAs n r image) from) → Told new (Putting n r body first (λ _ image. ReadsAs n r image) from) }
     ensures moments { (n : ℕ) (r : LogState) (body : List (List ℕ)) (first k : ℕ) (t : Tape) → Putting n r body first (λ _ image. ReadsAs n r image) k t → Always first (λ _ image. ReadsAs n r image) t }
-{
-}
+{}
 
 /// The head sector with a new batch or a new tail is written, and a barrier passes behind it.
 pub fn head_laws()
@@ -56,8 +53,7 @@ pub fn head_laws()
     ensures written { (n : ℕ) (r r2 : LogState) (old new : State) → Did (Put 2 (head_of r2)) old new → Told old (λ t. Stands n r t × Holds n r2 t) → Told new (Turns n r r2) }
     ensures failed { (n : ℕ) (r r2 : LogState) (old new : State) → Failed 2 (head_of r2) old new → Told old (λ t. Stands n r t × Holds n r2 t) → Told new (Either n r r2) }
     ensures passed { (n : ℕ) (r r2 : LogState) (old new : State) → Did Barrier old new → Told old (Turns n r r2) → Told new (Stands n r2) }
-{
-}
+{}
 
 /// Committed sectors are written home, one by one and in stages, and a barrier passes behind them.
 pub fn home_laws()
@@ -69,5 +65,4 @@ pub fn home_laws()
         → Told old (WritingHome n r writes first (λ _ image. ReadsAs n r image) 0) → Told new (WritingHome n r writes first (λ _ image. ReadsAs n r image) (length writes)) }
     ensures broken { (n : ℕ) (r : LogState) (writes : List (ℕ × List ℕ)) (first : ℕ) (old new : State) → 0 < n → AreHomes r writes → BrokeOff writes old new
         → Told old (WritingHome n r writes first (λ _ image. ReadsAs n r image) 0) → Told new (WritingHome n r writes first (λ _ image. ReadsAs n r image) 0) }
-{
-}
+{}

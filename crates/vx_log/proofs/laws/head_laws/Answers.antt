@@ -1,8 +1,8 @@
-use Rattle.std.proofs.Common.{◌≡◌, ◌≤◌, ◌+◌, ℕ, length, ap, arith}
+use Rattle.std.proofs.Common.{◌+◌, ℕ, ap, arith}
 use Rattle.vx_dev.specs.declared.device.Operation.TheVariants.{Put, Barrier}
-use Rattle.vx_dev.specs.Tape.{Tape, tried}
+use Rattle.vx_dev.specs.Tape.{tried}
 use Rattle.vx_dev.proofs.Tapes.{told_did, told_either, tried_writes}
-use Rattle.vx_layout.specs.LogForms.{head_of, head_sector, log_length, body_of}
+use Rattle.vx_layout.specs.LogForms.{head_of, head_sector}
 use Rattle.vx_log.specs.Crashes.{Holds, Stands, Either, Turns}
 use Rattle.vx_log.specs.Logs.{next_serial}
 use Rattle.vx_log.proofs.Bodies.{length-body}

@@ -1,4 +1,4 @@
-use Rattle.std.proofs.Common.{ℕ, List, [], refl, sym, ⊎_elim, inl, inr}
+use Rattle.std.proofs.Common.{[], refl, sym, ⊎_elim, inl, inr}
 use Rattle.vx_layout.specs.LogForms.{ReadsAs}
 use Rattle.vx_log.proofs.HomeWrites.{home_free, home_put, home_stable, all_home}
 use Rattle.vx_log.proofs.Operations.{reads}

@@ -1,6 +1,4 @@
-use Rattle.std.proofs.Common.{◌≡◌, ◌+◌, ◌<◌, ◌≤◌, ℕ, List, length, [], get_or, sym, ◌∙◌, ap, subst, arith}
-use Rattle.vx_dev.specs.Tape.{State, Failed, Did}
-use Rattle.vx_dev.specs.declared.device.Operation.TheVariants.{Put}
+use Rattle.std.proofs.Common.{◌≡◌, ◌+◌, ◌<◌, ◌≤◌, ℕ, length, ◌∙◌, ap, arith}
 use Rattle.vx_layout.specs.LogForms.{body_of, log_at}
 use Rattle.vx_log.proofs.Bodies.{length-body}
 use Rattle.vx_log.proofs.StageLemmas.{stage_more, stage_failed, on_err_any}

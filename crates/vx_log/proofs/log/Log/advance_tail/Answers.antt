@@ -1,4 +1,4 @@
-use Rattle.std.proofs.Common.{◌≡◌, ◌∙◌, refl, sym, ap, subst, arith, ◌⊎◌, Contains}
+use Rattle.std.proofs.Common.{◌≡◌, refl, sym, subst, arith, ◌⊎◌, Contains}
 use Rattle.std.specs.Prelude.{IsNone}
 use Rattle.vx_log.specs.Logs.{LogView, IsBoundary}
 use Rattle.vx_log.proofs.LogLemmas.{advanced_log}

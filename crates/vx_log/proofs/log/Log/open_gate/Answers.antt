@@ -1,4 +1,4 @@
-use Rattle.std.proofs.Common.{◌≡◌, ◌+◌, ◌∙◌, refl, sym, ap, arith, ℕ}
+use Rattle.std.proofs.Common.{◌+◌, ◌∙◌, refl, ap, arith, ℕ}
 use Rattle.vx_layout.specs.LogForms.{log_length}
 use Rattle.vx_log.proofs.LogLemmas.{opened_log, starts_room, emptied_is}
 use Rattle.vx_log.proofs.log.Log.open_gate.Goals as goal
