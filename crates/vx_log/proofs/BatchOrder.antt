@@ -1,31 +1,32 @@
 -- Where a sector stands in a batch, and what a set leaves.
-use Rattle.std.proofs.Common.{◌≡◌, ◌≢◌, ◌⊎◌, ◌+◌, ◌-◌, ◌<◌, ◌≤◌, ℕ, zero, suc, Bool, true, false, ltb, List, [], ◌∷◌, ◌++◌, length, map, get_or, set, take, drop, refl, sym, ◌∙◌, ap, subst, inl, inr, arith, cond, Contains, length-set}
-use Rattle.std.specs.Prelude.{◌==◌, nat_eq, nat_lt, if◌then◌else◌, IsTrue, insert}
+use Rattle.std.proofs.Common.{◌≡◌, ◌≢◌, ◌+◌, ◌<◌, ◌≤◌, ℕ, zero, suc, Bool, true, false, List, [], ◌∷◌, length, get_or, set, refl, sym, ◌∙◌, ap, subst, inl, inr, arith, Contains, length-set}
+use Rattle.std.specs.Prelude.{◌==◌, nat_eq, nat_lt, insert}
 use Rattle.std.specs.List.Sorted.{IsStrictlyIncreasing, IsNonDecreasingBy, IsPartitionPoint}
 use Rattle.std.proofs.lemmas.Bool.{cases_lt, cases_eq}
 use Rattle.std.proofs.lemmas.Bool.Decides.{nat_tests}
 use Rattle.std.proofs.lemmas.List.{get_or-map, length-map, get_or_default}
-use Rattle.std.proofs.lemmas.List.Sorted.{IsNonDecreasingBy-from_default}
 use Rattle.std.proofs.lemmas.List.Edits.{length-insert}
 use Rattle.vx_layout.specs.LogForms.{AfterImage}
 use Rattle.vx_log.specs.Batches.{sectors_of, batch_set, IsBatch, HasRoom, IsPlaceOf, StandsAt, LacksAt}
 
 -- the sectors rise, and none is below low
-abbrev RisesFrom : ℕ → List AfterImage → Type 0
+abbrev pub RisesFrom : ℕ → List AfterImage → Type 0
 RisesFrom low [] = Unit {0}
 RisesFrom low (e ∷ es) = (low ≤ e.0) × RisesFrom (e.0 + 1) es
 
-RisesFrom-of : (low : ℕ) (b : List AfterImage) → IsStrictlyIncreasing (sectors_of b) → (0 < length b → low ≤ get_or (sectors_of b) 0 0) → RisesFrom low b
+pub RisesFrom-of : (low : ℕ) (b : List AfterImage) → IsStrictlyIncreasing (sectors_of b) → (0 < length b → low ≤ get_or (sectors_of b) 0 0) → RisesFrom low b
 RisesFrom-of low [] h from = tt
 RisesFrom-of low (e ∷ es) h from =
     let first : low ≤ e.0 = from (omega arith) in
     let rest : IsStrictlyIncreasing (sectors_of es) = λ k lt.
-        let next : suc k + 1 ≡ suc (k + 1) = omega arith in
-        subst (λ (j : ℕ). get_or (sectors_of es) k 0 < get_or (sectors_of (e ∷ es)) j 0) next (h (suc k) (omega (arith, lt))) in
-    (first, RisesFrom-of (e.0 + 1) es rest (λ some.
-        let one : 0 + 1 ≡ suc zero = refl in
-        let next : e.0 < get_or (sectors_of es) 0 0 = subst (λ (j : ℕ). e.0 < get_or (sectors_of (e ∷ es)) j 0) one (h 0 (omega (arith, some, length-map es (λ (x : AfterImage). x.0)))) in
-        omega (arith, next)))
+    let next : suc k + 1 ≡ suc (k + 1) = omega arith in
+    subst (λ (j : ℕ). get_or (sectors_of es) k 0 < get_or (sectors_of (e ∷ es)) j 0) next (h (suc k) (omega (arith, lt))) in (
+      first,
+      RisesFrom-of (e.0 + 1) es rest (λ some.
+          let one : 0 + 1 ≡ suc zero = refl in
+          let next : e.0 < get_or (sectors_of es) 0 0 = subst (λ (j : ℕ). e.0 < get_or (sectors_of (e ∷ es)) j 0) one (h 0 (omega (arith, some, length-map es (λ (x : AfterImage). x.0)))) in
+          omega (arith, next)),
+    )
 
 RisesFrom-first : (low : ℕ) (b : List AfterImage) → RisesFrom low b → 0 < length b → low ≤ get_or (sectors_of b) 0 0
 RisesFrom-first low [] h some = absurd (omega (arith, some))
@@ -82,19 +83,19 @@ batch_in_order b h i j d le lt = in_order 0 b i j d (RisesFrom-of 0 b h (λ _. o
 -- what a search answers
 pub place_found : (b : List AfterImage) (s i : ℕ) → i ≤ length b → IsPartitionPoint (λ (e : AfterImage). nat_lt e.0 s ≡ true) (λ (e : AfterImage). nat_lt e.0 s ≡ false) b i → IsPlaceOf b s i
 place_found b s i le found = record {
-    bound = le;
-    below = λ k lt. let d : AfterImage = (0, []) in let test : nat_lt (get_or b k d).0 s ≡ true = found.0 k d (omega arith) lt in
+  bound = le;
+  below = λ k lt. let d : AfterImage = (0, []) in let test : nat_lt (get_or b k d).0 s ≡ true = found.0 k d (omega arith) lt in
       let less : (get_or b k d).0 < s = grind (arith, nat_tests) in rw (get_or-map (λ (e : AfterImage). e.0) b k d 0 (omega (arith, lt, le))) less;
-    above = λ k from lt. let d : AfterImage = (0, []) in let test : nat_lt (get_or b k d).0 s ≡ false = found.1 k d from lt in
+  above = λ k from lt. let d : AfterImage = (0, []) in let test : nat_lt (get_or b k d).0 s ≡ false = found.1 k d from lt in
       let more : s ≤ (get_or b k d).0 = grind (arith, nat_tests) in rw (get_or-map (λ (e : AfterImage). e.0) b k d 0 lt) more;
-  }
+}
 
 place_next : (e : AfterImage) (es : List AfterImage) (s i : ℕ) → IsPlaceOf (e ∷ es) s (suc i) → IsPlaceOf es s i
 place_next e es s i p = record {
-    bound = omega (arith, p.bound);
-    below = λ k lt. p.below (suc k) (omega (arith, lt));
-    above = λ k from lt. p.above (suc k) (omega (arith, from)) (omega (arith, lt));
-  }
+  bound = omega (arith, p.bound);
+  below = λ k lt. p.below (suc k) (omega (arith, lt));
+  above = λ k from lt. p.above (suc k) (omega (arith, from)) (omega (arith, lt));
+}
 
 -- where the sector stands already, it is replaced
 pub batch_set_same : (b : List AfterImage) (s i : ℕ) (x : List ℕ) → IsPlaceOf b s i → i < length b → get_or (sectors_of b) i 0 ≡ s → batch_set b s x ≡ set b i (s, x)

@@ -1,7 +1,7 @@
 -- The log sectors of a batch, one by one.
-use Rattle.std.proofs.Common.{◌≡◌, ◌≢◌, ◌+◌, ◌-◌, ◌*◌, ◌/◌, ◌%◌, ◌<◌, ◌≤◌, ℕ, zero, suc, List, [], ◌∷◌, ◌++◌, length, map, get_or, take, drop, refl, sym, ◌∙◌, ap, subst, arith, min, length-append, length-take, length-drop}
-use Rattle.std.proofs.lemmas.List.{length-map, get_or_append_left, get_or-append-add, take_all, get_or-map, get_or-take, get_or-drop, drop-drop, take_min}
-use Rattle.vx_layout.specs.LogForms.{AfterImage, descriptor, record_sectors, log_sectors, record_count, log_length, records_from, records_of, body_of, overlay, overlay_all}
+use Rattle.std.proofs.Common.{◌≡◌, ◌+◌, ◌-◌, ◌*◌, ◌/◌, ◌%◌, ◌<◌, ◌≤◌, ℕ, zero, suc, List, [], length, map, get_or, take, drop, sym, ◌∙◌, ap, arith, min, length-append, length-take, length-drop}
+use Rattle.std.proofs.lemmas.List.{length-map, get_or_append_left, get_or-append-add, get_or-map, get_or-take, get_or-drop, drop-drop, take_min}
+use Rattle.vx_layout.specs.LogForms.{AfterImage, descriptor, record_sectors, log_sectors, record_count, log_length, records_from, records_of, body_of}
 
 sectors : List AfterImage → List ℕ
 sectors b = map (λ (e : AfterImage). e.0) b
@@ -87,11 +87,12 @@ body-image position i b d lt later =
     let j : ℕ = i % 125 - 1 in
     let index : 125 * q + (1 + j) ≡ i = omega (arith, later) in
     let place : 124 * q + j ≡ q * 124 + i % 125 - 1 = omega (arith, later) in
-    let within : 124 * q + j < length b = omega (arith, lt, index) in
-    (omega (arith, within, place),
+    let within : 124 * q + j < length b = omega (arith, lt, index) in (
+      omega (arith, within, place),
       ap (λ (n : ℕ). get_or (body_of position b) n []) (sym index)
-      ∙ image_from (record_count (length b)) position q j b d (omega (arith, lt, index)) (omega arith) within
-      ∙ ap (λ (n : ℕ). (get_or b n d).1) place)
+          ∙ image_from (record_count (length b)) position q j b d (omega (arith, lt, index)) (omega arith) within
+          ∙ ap (λ (n : ℕ). (get_or b n d).1) place,
+    )
 
 -- a record's range of the batch, where the batch may end within it
 pub record-range : (first end from : ℕ) (b : List AfterImage) → first ≤ length b → end ≡ min (length b) (first + 124) → from ≡ first → take (end - from) (drop from b) ≡ take 124 (drop first b)

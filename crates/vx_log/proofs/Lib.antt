@@ -1,7 +1,13 @@
 mod Filling
-mod BatchOrder
+pub mod BatchOrder
 mod Starts
 mod LogLemmas
 mod StageLemmas
 pub mod RunLemmas
 pub mod Bodies
+pub mod Operations
+pub mod Commits
+pub mod HomeWrites
+pub mod Times
+pub mod Overlays
+pub mod StageRuns

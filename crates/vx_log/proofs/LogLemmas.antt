@@ -1,8 +1,8 @@
 -- What each change keeps of a log.
-use Rattle.std.proofs.Common.{◌≡◌, ◌⊎◌, ◌+◌, ◌*◌, ◌<◌, ◌≤◌, ◌/◌, ℕ, Bool, true, List, [], ◌∷◌, ◌++◌, length, refl, sym, ◌∙◌, ap, subst, arith, Contains}
+use Rattle.std.proofs.Common.{◌≡◌, ◌⊎◌, ◌+◌, ◌*◌, ◌≤◌, ℕ, List, [], ◌∷◌, ◌++◌, length, refl, sym, ◌∙◌, subst, arith, Contains}
 use Rattle.std.specs.Prelude.{filter, nat_le, Option, Some, None, IfSome, option_map, IsNone}
 use Rattle.vx_layout.specs.LogForms.{AfterImage, log_length}
-use Rattle.vx_log.specs.Logs.{LogView, IsLog, IsClosing, AreStarts}
+use Rattle.vx_log.specs.Logs.{LogView, IsLog, IsClosing}
 use Rattle.vx_log.specs.declared.log.Closing.{Closing}
 use Rattle.vx_log.proofs.Starts.{starts_long, starts_push, starts_advanced, boundary_above}
 

@@ -1,9 +1,9 @@
 -- Runs of operations.
-use Rattle.std.proofs.Common.{◌≡◌, ◌+◌, ◌-◌, ◌≤◌, ◌<◌, ◌%◌, ℕ, zero, suc, List, [], ◌∷◌, ◌++◌, length, take, drop, get_or, refl, sym, ◌∙◌, ap, subst, inl, inr, ⊎_elim, arith, append_assoc, length-append}
-use Rattle.std.specs.Prelude.{option_map, Option, Some, None, Result, Ok, Err, OnErr, slice_range}
-use Rattle.std.proofs.lemmas.List.{append-nil, take_all, take-take, get_or-take, get_or-drop, length-take-le}
+use Rattle.std.proofs.Common.{◌≡◌, ◌+◌, ◌<◌, ℕ, zero, suc, List, [], ◌∷◌, ◌++◌, length, take, get_or, refl, sym, ◌∙◌, ap, subst, inl, inr, ⊎_elim, arith, append_assoc, length-append}
+use Rattle.std.specs.Prelude.{option_map, Option, Some, None}
+use Rattle.std.proofs.lemmas.List.{append-nil}
 use Rattle.vx_dev.specs.declared.device.Operation.{Operation}
-use Rattle.vx_dev.specs.declared.device.Operation.TheVariants.{Put, Barrier}
+use Rattle.vx_dev.specs.declared.device.Operation.TheVariants.{Put}
 use Rattle.vx_dev.specs.Tape.{Tape, State, Did, DidNothing, Failed, did}
 use Rattle.vx_layout.specs.LogForms.{log_at}
 use Rattle.vx_log.specs.Runs.{did_all, Ran, puts, BrokeOff, log_writes}
@@ -54,10 +54,10 @@ ran_none d = record { told = same d.told; count = omega arith; size = refl }
 -- one operation more
 pub ran_more : (ops : List Operation) (op : Operation) (old mid new : State) → Ran ops old mid → Did op mid new → new.size ≡ mid.size → Ran (ops ++ op ∷ []) old new
 ran_more ops op old mid new ran more size = record {
-    told = more.told ∙ ap (option_map (did op)) ran.told ∙ both old.told;
-    count = omega (arith, more.count, ran.count, length-append ops (op ∷ []));
-    size = size ∙ ran.size;
-  }
+  told = more.told ∙ ap (option_map (did op)) ran.told ∙ both old.told;
+  count = omega (arith, more.count, ran.count, length-append ops (op ∷ []));
+  size = size ∙ ran.size;
+}
   where
     both : (o : Option Tape) → option_map (did op) (option_map (did_all ops) o) ≡ option_map (did_all (ops ++ op ∷ [])) o
     both None = refl
@@ -69,16 +69,16 @@ ran_nothing ops old mid new ran none size = record { told = none.told ∙ ran.to
 -- a write of the list fails
 pub broke_off : (writes : List (ℕ × List ℕ)) (k : ℕ) (w : ℕ × List ℕ) (old mid new : State) → k < length writes → get_or writes k w ≡ w → Ran (puts (take k writes)) old mid → mid.doubt ≡ old.doubt → Failed w.0 w.1 mid new → new.size ≡ mid.size → BrokeOff writes old new
 broke_off writes k w old mid new within is ran certain failed size = record {
-    k = k;
-    within = within;
-    failed = w;
-    failed_is = is;
-    ran = ⊎_elim
+  k = k;
+  within = within;
+  failed = w;
+  failed_is = is;
+  ran = ⊎_elim
       (λ did. inl (ran_more (take k (puts writes)) _ old mid new before did size))
       (λ none. inr (ran_nothing (take k (puts writes)) old mid new before none size))
       failed.did;
-    doubt = ⊎_elim (λ more. inl (subst (λ (d : List ℕ). new.doubt ≡ w.0 ∷ d) certain more)) (λ same. inr (same ∙ certain)) failed.doubt;
-  }
+  doubt = ⊎_elim (λ more. inl (subst (λ (d : List ℕ). new.doubt ≡ w.0 ∷ d) certain more)) (λ same. inr (same ∙ certain)) failed.doubt;
+}
   where
     before : Ran (take k (puts writes)) old mid
     before = subst (λ (ops : List Operation). Ran ops old mid) (sym (take-puts k writes)) ran

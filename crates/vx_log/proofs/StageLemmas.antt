@@ -1,10 +1,10 @@
 -- One sector more of a body, or one that fails.
-use Rattle.std.proofs.Common.{◌≡◌, ◌+◌, ◌-◌, ◌≤◌, ◌<◌, ◌%◌, ℕ, List, [], ◌∷◌, ◌++◌, length, take, drop, get_or, refl, sym, ◌∙◌, ap, subst, arith, length-take, length-drop}
+use Rattle.std.proofs.Common.{◌≡◌, ◌+◌, ◌-◌, ◌≤◌, ◌<◌, ℕ, List, [], ◌∷◌, ◌++◌, length, take, drop, get_or, sym, ◌∙◌, ap, subst, arith, length-take, length-drop}
 use Rattle.std.specs.Prelude.{slice_range, Result, Ok, Err, OnErr}
 use Rattle.std.proofs.lemmas.List.{take-take, get_or-take, get_or-drop}
 use Rattle.std.proofs.lemmas.List.Edits.{between_more}
 use Rattle.vx_dev.specs.declared.device.Operation.{Operation}
-use Rattle.vx_dev.specs.declared.device.Operation.TheVariants.{Put, Barrier}
+use Rattle.vx_dev.specs.declared.device.Operation.TheVariants.{Put}
 use Rattle.vx_dev.specs.Tape.{State, Did, Failed}
 use Rattle.vx_layout.specs.LogForms.{log_at}
 use Rattle.vx_log.specs.Runs.{Ran, puts, BrokeOff, log_writes}
@@ -38,13 +38,13 @@ module _ (n head from i : ℕ) (body : List (List ℕ)) (x : List ℕ) (after : 
       let w : ℕ × List ℕ = (log_at n (head + i), x) in
       let short : k < length all = omega (arith, lt, after, length-range from end body (omega (arith, lt, after)) le) in
       let front : take k (log_writes n (head + from) all) ≡ log_writes n (head + from) (slice_range body from i) =
-        take-log_writes k n (head + from) all ∙ ap (λ (xs : List (List ℕ)). log_writes n (head + from) xs) (take-take k (end - from) (drop from body) (omega (arith, lt))) in
+      take-log_writes k n (head + from) all ∙ ap (λ (xs : List (List ℕ)). log_writes n (head + from) xs) (take-take k (end - from) (drop from body) (omega (arith, lt))) in
       let place : head + from + k ≡ head + i = omega (arith, after) in
       let index : from + k ≡ i = omega (arith, after) in
       let bytes : get_or all k [] ≡ x = get_or-take (end - from) (drop from body) k [] (omega (arith, lt, after)) ∙ get_or-drop from body k [] ∙ ap (λ (j : ℕ). get_or body j []) index ∙ sym is in
       broke_off (log_writes n (head + from) all) k w old mid new (omega (arith, short, length-log_writes n (head + from) all))
-        (get_or-log_writes k n (head + from) all w short ∙ ap (λ (p : ℕ). (log_at n p, get_or all k [])) place ∙ ap (λ (b : List ℕ). (log_at n (head + i), b)) bytes)
-        (subst (λ (ws : List (ℕ × List ℕ)). Ran (puts ws) old mid) (sym front) ran) certain (subst (λ (u : ℕ). Failed u x mid new) at_is failed) size
+      (get_or-log_writes k n (head + from) all w short ∙ ap (λ (p : ℕ). (log_at n p, get_or all k [])) place ∙ ap (λ (b : List ℕ). (log_at n (head + i), b)) bytes)
+      (subst (λ (ws : List (ℕ × List ℕ)). Ran (puts ws) old mid) (sym front) ran) certain (subst (λ (u : ℕ). Failed u x mid new) at_is failed) size
 
 pub on_err_any : {T E X : Type 0} (r : Result T E) → X → OnErr r X
 on_err_any (Ok v) x = tt

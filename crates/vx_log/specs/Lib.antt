@@ -1,3 +1,6 @@
 pub mod Batches
 pub mod Runs
 pub mod Logs
+pub mod Crashes
+pub mod Moments
+pub mod Stages

@@ -1,5 +1,5 @@
 -- The intent log as its callers see it.
-use Rattle.std.specs.Prelude.{◌≡◌, ◌⊎◌, ◌==◌, ◌&&◌, ◌<◌, ◌≤◌, ◌+◌, ◌-◌, ◌%◌, ◌^◌, min, ℕ, Bool, true, false, IsTrue, List, [], ◌∷◌, ◌++◌, length, filter, nat_le, Option, Some, None, option_map, IfSome, is_none, is_some, if◌then◌else◌, All, Contains, slice_range}
+use Rattle.std.specs.Prelude.{◌≡◌, ◌⊎◌, ◌==◌, ◌&&◌, ◌<◌, ◌≤◌, ◌+◌, ◌%◌, ◌^◌, min, ℕ, Bool, true, false, List, [], ◌∷◌, ◌++◌, length, filter, nat_le, Option, Some, None, IfSome, is_none, All, Contains, slice_range}
 use Rattle.vx_layout.specs.LogForms.{AfterImage, log_length, body_of}
 use Rattle.vx_log.specs.Batches.{IsBatch}
 use Rattle.vx_log.specs.Runs.{log_writes}

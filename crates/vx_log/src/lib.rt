@@ -6,6 +6,7 @@ mod batch;
 mod body;
 mod descriptor;
 mod head;
+mod laws;
 mod log;
 mod sheet;
 mod stage;
@@ -13,4 +14,8 @@ mod stage;
 pub use batch::Batch;
 pub use body::log_length;
 pub use head::head_sector;
+pub use laws::{batch_laws, body_laws, head_laws, home_laws, image_laws};
 pub use log::Log;
+
+#[cfg(test)]
+mod tests;

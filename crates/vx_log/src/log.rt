@@ -145,6 +145,7 @@ impl Log {
         ensures out { IfOk result (λ out. out ≡ is_body_out self.new.closing) }
         ensures err { OnErr result (BrokeOff (stage_writes self.old.sectors self.old.head self.old.closing) (D.state dev.old) (D.state dev.new)) }
         ensures same { OnErr result (self.new ≡ self.old) }
+        ensures size { (D.state dev.new).size ≡ (D.state dev.old).size }
         ensures reads { (D.state dev.new).read_faults ≡ (D.state dev.old).read_faults }
         ensures cause { HasCause (D.state dev.old).write_faults (D.state dev.new).write_faults result }
     {

@@ -38,6 +38,7 @@ pub fn put_body<D: BlockDev>(
     ensures ok { OnOk result (Ran (puts (log_writes sectors (head + from) (slice_range (body_of head batch.now) from end))) (D.state dev.old) (D.state dev.new)) }
     ensures certain { OnOk result ((D.state dev.new).doubt ≡ (D.state dev.old).doubt) }
     ensures err { OnErr result (BrokeOff (log_writes sectors (head + from) (slice_range (body_of head batch.now) from end)) (D.state dev.old) (D.state dev.new)) }
+    ensures size { (D.state dev.new).size ≡ (D.state dev.old).size }
     ensures reads { (D.state dev.new).read_faults ≡ (D.state dev.old).read_faults }
     ensures cause { HasCause (D.state dev.old).write_faults (D.state dev.new).write_faults result }
 {

@@ -1,4 +1,4 @@
-use Rattle.std.proofs.Common.{◌≡◌, ◌+◌, ◌-◌, ◌*◌, ◌/◌, ◌%◌, ◌<◌, ◌≤◌, ℕ, List, length, map, take, drop, sym, ◌∙◌, ap, refl, arith}
+use Rattle.std.proofs.Common.{◌+◌, ◌-◌, ◌*◌, ◌/◌, ◌%◌, ◌<◌, ◌≤◌, ℕ, List, length, map, take, drop, sym, ◌∙◌, ap, refl, arith}
 use Rattle.vx_layout.specs.LogForms.{AfterImage, descriptor}
 use Rattle.vx_log.proofs.Bodies.{body-descriptor, body-image, record-range}
 use Rattle.vx_log.proofs.body.body_sector.Goals as goal

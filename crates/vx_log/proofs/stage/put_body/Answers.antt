@@ -1,6 +1,4 @@
-use Rattle.std.proofs.Common.{◌≡◌, ◌+◌, ◌<◌, ◌≤◌, ℕ, List, length, [], get_or, sym, ◌∙◌, ap, subst, arith}
-use Rattle.vx_dev.specs.Tape.{State, Failed, Did}
-use Rattle.vx_dev.specs.declared.device.Operation.TheVariants.{Put}
+use Rattle.std.proofs.Common.{◌≡◌, ◌+◌, ◌<◌, ◌≤◌, ℕ, length, ◌∙◌, ap, arith}
 use Rattle.vx_layout.specs.LogForms.{body_of, log_at}
 use Rattle.vx_log.proofs.Bodies.{length-body}
 use Rattle.vx_log.proofs.StageLemmas.{stage_more, stage_failed, on_err_any}
@@ -14,9 +12,9 @@ returns-in_err-write-clause-err g c =
     let end : c.args.end ≤ length body = omega (arith, size, c.requires.within) in
     let at : c.place_of-at.result ≡ log_at c.args.sectors (c.args.head + c.loop-i.i) = c.place_of-at.ensures ∙ ap (λ (p : ℕ). log_at c.args.sectors (c.args.head + p)) c.from.ensures in
     on_err_any c.from_residual.result
-      (stage_failed c.args.sectors c.args.head c.args.from c.loop-i.i body c.body_sector.result c.loop-i.auto.i within c.body_sector.ensures c.place_of-at.result at c.args.end
-        (g.D.BlockDev.state c.args.dev.now) (g.D.BlockDev.state c.loop-i.dev) (g.D.BlockDev.state c.write.new.self) c.loop-i-test.true end
-        c.loop-i.invariant.ran c.loop-i.invariant.certain c.in_err-write.ensures.failed c.write.ensures.size)
+    (stage_failed c.args.sectors c.args.head c.args.from c.loop-i.i body c.body_sector.result c.loop-i.auto.i within c.body_sector.ensures c.place_of-at.result at c.args.end
+    (g.D.BlockDev.state c.args.dev.now) (g.D.BlockDev.state c.loop-i.dev) (g.D.BlockDev.state c.write.new.self) c.loop-i-test.true end
+    c.loop-i.invariant.ran c.loop-i.invariant.certain c.in_err-write.ensures.failed c.write.ensures.size)
 
 pub loop-i-preserved : goal.loop-i-preserved
 loop-i-preserved g c =
@@ -25,8 +23,8 @@ loop-i-preserved g c =
     let at : c.place_of-at.result ≡ log_at c.args.sectors (c.args.head + c.loop-i.i) = c.place_of-at.ensures ∙ ap (λ (p : ℕ). log_at c.args.sectors (c.args.head + p)) c.from.ensures in
     record {
       ran = stage_more c.args.sectors c.args.head c.args.from c.loop-i.i body c.body_sector.result c.loop-i.auto.i within c.body_sector.ensures c.place_of-at.result at
-        (g.D.BlockDev.state c.args.dev.now) (g.D.BlockDev.state c.loop-i.dev) (g.D.BlockDev.state c.write.new.self)
-        c.loop-i.invariant.ran c.in_ok-write.ensures.put c.write.ensures.size;
+          (g.D.BlockDev.state c.args.dev.now) (g.D.BlockDev.state c.loop-i.dev) (g.D.BlockDev.state c.write.new.self)
+          c.loop-i.invariant.ran c.in_ok-write.ensures.put c.write.ensures.size;
       certain = c.in_ok-write.ensures.certain ∙ c.loop-i.invariant.certain;
       reads = c.write.ensures.reads ∙ c.loop-i.invariant.reads;
       fine = c.in_ok-write.ensures.fine ∙ c.loop-i.invariant.fine;

@@ -1,4 +1,4 @@
-use Rattle.std.proofs.Common.{◌≡◌, ◌≤◌, ◌<◌, List, ℕ, length, sym, ◌∙◌, ap, subst, arith}
+use Rattle.std.proofs.Common.{List, sym, ◌∙◌, ap, subst, arith}
 use Rattle.std.specs.Prelude.{insert}
 use Rattle.vx_layout.specs.LogForms.{AfterImage}
 use Rattle.vx_log.specs.Batches.{IsBatch, HasRoom, batch_set, StandsAt, LacksAt}

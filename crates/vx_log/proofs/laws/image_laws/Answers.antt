@@ -1,0 +1,14 @@
+use Rattle.vx_log.proofs.Operations.{reads, reads_either, stands_put, stands_barrier}
+use Rattle.vx_log.proofs.laws.image_laws.Goals as goal
+
+pub returns-clause-stands : goal.returns-clause-stands
+returns-clause-stands c = reads
+
+pub returns-clause-either : goal.returns-clause-either
+returns-clause-either c = reads_either
+
+pub returns-clause-written : goal.returns-clause-written
+returns-clause-written c = stands_put
+
+pub returns-clause-barrier : goal.returns-clause-barrier
+returns-clause-barrier c = stands_barrier
