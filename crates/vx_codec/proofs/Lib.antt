@@ -2,3 +2,4 @@ pub mod Lengths
 pub mod Entries
 pub mod Bitmaps
 pub mod DirLaws
+pub mod InodeLaws
