@@ -3,3 +3,4 @@ pub mod Entries
 pub mod Bitmaps
 pub mod DirLaws
 pub mod InodeLaws
+pub mod BitLaws
