@@ -1,7 +1,5 @@
 -- How long the entries of a directory block are.
-use Rattle.std.proofs.Common.{◌≡◌, ℕ, zero, suc, ◌+◌, ◌<◌, ◌≤◌, List, [], ◌∷◌, ◌++◌, length, take, get_or, refl, sym, ap, subst, ◌∙◌, arith, length-append, add-one}
-use Rattle.std.proofs.lemmas.Grind.{common_steps}
-use Rattle.std.specs.List.{flat_map}
+use Rattle.std.proofs.Common.{◌≡◌, ℕ, zero, suc, ◌+◌, ◌<◌, ◌≤◌, List, [], ◌∷◌, length, take, get_or, ap, arith, length-append}
 use Rattle.vx_base.specs.declared.inode.DirEntry.{DirEntry}
 use Rattle.vx_layout.specs.Dirs.{entry_bytes, entries_bytes}
 

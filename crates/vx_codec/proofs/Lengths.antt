@@ -1,11 +1,10 @@
 -- The lengths of an inode's parts.
-use Rattle.std.proofs.Common.{◌≡◌, ℕ, ◌+◌, ◌-◌, ◌*◌, List, [], ◌∷◌, ◌++◌, length, replicate, refl, arith, length-append, Option, Some, None}
+use Rattle.std.proofs.Common.{◌≡◌, ℕ, ◌+◌, ◌-◌, List, ◌++◌, length, replicate, refl, arith, length-append}
 use Rattle.std.specs.Prelude.{unwrap_or}
 use Rattle.std.specs.Int.{w32, to_le_bytes}
 use Rattle.std.specs.List.{flat_map}
-use Rattle.vx_base.specs.declared.inode.Extent.{Extent}
 use Rattle.vx_base.specs.declared.inode.InodeValue.{InodeValue}
-use Rattle.vx_layout.specs.Inodes.{inode_head, extent_bytes, place_bytes}
+use Rattle.vx_layout.specs.Inodes.{inode_head, place_bytes}
 
 -- a text with the zeros that finish puts behind it
 pub padded : (s t : List ℕ) (n k : ℕ) → s ≡ t → length t + k ≡ n → s ++ replicate (n - length s) 0 ≡ t ++ replicate k 0

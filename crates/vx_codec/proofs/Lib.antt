@@ -2,3 +2,5 @@ pub mod Lengths
 pub mod Entries
 pub mod Bitmaps
 pub mod DirLaws
+pub mod InodeLaws
+pub mod BitLaws

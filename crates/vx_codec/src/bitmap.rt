@@ -1,6 +1,6 @@
 //! The bitmap of a unit.
-ghost use Rattle.std.specs.Prelude.{◌≡◌, ◌+◌, ◌*◌, ◌≤◌, false, length, get_or};
-ghost use Rattle.vx_layout.specs.Bits.{bit_value, bit_byte, bits_bytes};
+ghost use Rattle.std.specs.Prelude.{◌≡◌, ℕ, ◌+◌, ◌*◌, ◌≤◌, ◌<◌, Bool, false, length, get_or};
+ghost use Rattle.vx_layout.specs.Bits.{bit_value, bit_byte, bits_bytes, is_set};
 
 use vx_layout::Sheet;
 
@@ -15,6 +15,29 @@ pub fn write_bits(used: &[bool; 4096]) -> [u8; 512]
         sheet.put_u8(byte_of(used, 8 * i));
     }
     sheet.finish()
+}
+
+/// The bits of a bitmap's first sector.
+pub fn read_bits(sector: &[u8; 512]) -> [bool; 4096]
+    ensures { sector.now ≡ bits_bytes (λ j. get_or result j false) }
+{
+    let mut used = [false; 4096];
+    for j in 0..4096 {
+        used[j] = bit_of(sector, j);
+    }
+    used
+}
+
+/// Bits that differ are spelled by bytes that differ.
+pub fn bits_spelling()
+    ensures { (f g : ℕ → Bool) → bits_bytes f ≡ bits_bytes g → (j : ℕ) → j < 4096 → f j ≡ g j }
+{}
+
+fn bit_of(sector: &[u8; 512], j: usize) -> bool
+    requires { j < 4096 }
+    ensures { result ≡ is_set sector.now j }
+{
+    (sector[j / 8] >> (j % 8)) % 2 == 1
 }
 
 #[tactic(auto, unfolding(vx_layout::specs::Bits::bit_byte))]
@@ -52,5 +75,8 @@ mod tests {
         let sector = write_bits(&used);
         assert!(rt; sector.starts_with(&[0xff, 0xff, 0xff, 0xff, 3]));
         assert!(rt; sector.iter().skip(5).all(|byte| *byte == 0));
+        let read = read_bits(&sector);
+        assert!(rt; read[33]);
+        assert!(rt; !read[34]);
     }
 }

@@ -27,8 +27,7 @@ pub fn write_dir<const N: usize>(entries: &[DirEntry]) -> [u8; N]
 pub fn dir_spelling()
     ensures again { (size : ℕ) (es : List DirEntry) → IsDir size es → dir_at (dir_bytes size es) ≡ Some es }
     ensures unique { (size : ℕ) (xs ys : List DirEntry) → IsDir size xs → IsDir size ys → dir_bytes size xs ≡ dir_bytes size ys → xs ≡ ys }
-{
-}
+{}
 
 #[tactic(auto, unfolding(vx_layout::specs::Dirs::entry_bytes))]
 fn put_entry<const N: usize>(sheet: &mut Sheet<N>, entry: &DirEntry)

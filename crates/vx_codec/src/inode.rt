@@ -1,10 +1,14 @@
 //! Inodes.
-ghost use Rattle.std.specs.Prelude.{◌≡◌, ◌++◌, option_copied, unwrap_or};
+ghost use Rattle.std.specs.Prelude.{◌≡◌, ℕ, ◌+◌, ◌≤◌, ◌<◌, ◌++◌, ◌&&◌, length, option_copied, unwrap_or, Option, Ok, IfOk};
+ghost use Rattle.std.specs.Str.{bytes_eq};
 ghost use Rattle.std.specs.List.{flat_map};
-ghost use Rattle.vx_layout.specs.Inodes.{kind_number, file_kind_number, extent_bytes, place_bytes, inode_head, inode_bytes, slot_bytes};
+ghost use Rattle.vx_layout.specs.Inodes.{kind_number, file_kind_number, extent_bytes, place_bytes, inode_head, inode_bytes, slot_bytes, half_of, layout1, IsSlot, IsInode, inode_fits, attrs_fit, kind_from, file_kind_from, extent_at, place_at, places_at, attrs_at, fields_at, map_at, inode_at, slot_at};
+ghost use Rattle.vx_base.specs.declared.inode.InodeValue.{InodeValue};
+ghost use Rattle.vx_base.specs.declared.geom.Geom.{Geom};
 
-use vx_base::{Block, Extent, FileKind, InodeValue, Kind};
+use vx_base::{Block, ExtAttrs, Extent, FileKind, Inode, InodeValue, Kind, Page};
 use vx_layout::Sheet;
+use vx_layout::fields::{is_zero_from, u16_at, u32_at, u64_at};
 
 /// The one spelling of an inode in use.
 pub fn write_inode(value: &InodeValue) -> [u8; 256]
@@ -25,6 +29,194 @@ pub fn inode_sector(even: Option<&InodeValue>, odd: Option<&InodeValue>) -> [u8;
     sheet.put(&slot_text(even));
     sheet.put(&slot_text(odd));
     sheet.finish()
+}
+
+/// Bytes that no value is spelled by.
+#[derive(Clone, Copy, Debug)]
+pub struct Bad;
+
+/// The inode in one half of a sector of layout 1, None where it is free.
+///
+/// That its extents are in order and that its blocks are there is not looked at.
+pub fn read_inode(sector: &[u8; 512], half: u32) -> Result<Option<InodeValue>, Bad>
+    requires { half < 2 }
+    // What is read is spelled so.
+    ensures found { IfOk result (λ v. IsSlot layout1 v × (half_of sector.now half ≡ slot_bytes v)) }
+    // What is spelled so is read.
+    ensures only { (v : Option InodeValue) → IsSlot layout1 v → half_of sector.now half ≡ slot_bytes v → result ≡ Ok v }
+{
+    let at = 256 * half as usize;
+    match slot_of(&sector[at..at + 256]) {
+        Some(value) => Ok(value),
+        None => Err(Bad),
+    }
+}
+
+/// What is spelled as an inode is read again, and so each inode has one spelling.
+pub fn inode_spelling()
+    ensures again { (g : Geom) (v : InodeValue) → IsInode g v → inode_at (inode_bytes v) ≡ v }
+    ensures unique { (g : Geom) (v w : InodeValue) → IsInode g v → IsInode g w → inode_bytes v ≡ inode_bytes w → v ≡ w }
+{}
+
+fn slot_of(bytes: &[u8]) -> Option<Option<InodeValue>>
+    requires { length bytes.now ≡ 256 }
+    ensures { result ≡ slot_at layout1 bytes.now }
+{
+    if bytes[0] == 0 {
+        return if is_zero_from(bytes, 0) {
+            Some(None)
+        } else {
+            None
+        };
+    }
+    let value = inode_of(bytes);
+    if spells(&value, bytes) {
+        Some(Some(value))
+    } else {
+        None
+    }
+}
+
+fn spells(value: &InodeValue, bytes: &[u8]) -> bool
+    ensures { result ≡ (inode_fits layout1 value.now && bytes_eq (inode_bytes value.now) bytes.now) }
+{
+    fits(value) && write_inode(value).as_slice() == bytes
+}
+
+#[tactic(auto, unfolding(vx_layout::specs::Inodes::inode_fits))]
+fn fits(value: &InodeValue) -> bool
+    ensures { result ≡ inode_fits layout1 value.now }
+{
+    value.inode.attrs.flags < 32
+        && value.inode.mode <= 4095
+        && value.inode.nlink <= 32767
+        && value.maps <= 64
+        && value.extents <= 4038
+        && attrs_fit(&value.inode)
+}
+
+fn attrs_fit(inode: &Inode) -> bool
+    ensures { result ≡ attrs_fit layout1 inode.now }
+{
+    let attrs = &inode.attrs;
+    match inode.kind {
+        FileKind::File => {
+            inode.size <= 1 << 26
+                && attrs.fixed <= 4063
+                && attrs.reserve <= 65536
+                && (attrs.flags & 8 == 0 || attrs.reserve == 0)
+        }
+        FileKind::Directory => {
+            attrs.flags == 0 && inode.nlink == 1 && attrs.fixed == 0 && attrs.reserve == 0
+        }
+    }
+}
+
+fn inode_of(bytes: &[u8]) -> InodeValue
+    requires { 256 ≤ length bytes.now }
+    ensures { result ≡ inode_at bytes.now }
+{
+    let maps = u16_at(bytes, 6);
+    let extents = u32_at(bytes, 24);
+    InodeValue {
+        inode: fields_of(bytes),
+        maps,
+        extents,
+        first: places_of(bytes, 32, extents),
+        map: map_of(bytes, maps),
+    }
+}
+
+fn fields_of(bytes: &[u8]) -> Inode
+    requires { 256 ≤ length bytes.now }
+    ensures { result ≡ fields_at bytes.now }
+{
+    Inode {
+        kind: file_kind_of(bytes[0]),
+        mode: u16_at(bytes, 2),
+        nlink: u16_at(bytes, 4),
+        size: u64_at(bytes, 8),
+        attrs: attrs_of(bytes),
+    }
+}
+
+fn attrs_of(bytes: &[u8]) -> ExtAttrs
+    requires { 256 ≤ length bytes.now }
+    ensures { result ≡ attrs_at bytes.now }
+{
+    ExtAttrs {
+        fixed: u32_at(bytes, 16),
+        reserve: u32_at(bytes, 20),
+        flags: bytes[1],
+    }
+}
+
+fn places_of(bytes: &[u8], at: usize, extents: u32) -> [Option<Extent>; 6]
+    requires { at + 96 ≤ length bytes.now }
+    ensures { result ≡ places_at extents at bytes.now }
+{
+    [
+        place_of(bytes, at, 0, extents),
+        place_of(bytes, at + 16, 1, extents),
+        place_of(bytes, at + 32, 2, extents),
+        place_of(bytes, at + 48, 3, extents),
+        place_of(bytes, at + 64, 4, extents),
+        place_of(bytes, at + 80, 5, extents),
+    ]
+}
+
+fn place_of(bytes: &[u8], at: usize, index: u32, extents: u32) -> Option<Extent>
+    requires { at + 16 ≤ length bytes.now }
+    ensures { result ≡ place_at extents index at bytes.now }
+{
+    if index < extents {
+        Some(extent_of(bytes, at))
+    } else {
+        None
+    }
+}
+
+fn extent_of(bytes: &[u8], at: usize) -> Extent
+    requires { at + 16 ≤ length bytes.now }
+    ensures { result ≡ extent_at at bytes.now }
+{
+    Extent {
+        page: Page::new(u32_at(bytes, at)),
+        start: Block::new(u32_at(bytes, at + 4)),
+        len: u32_at(bytes, at + 8),
+        kind: kind_of(u32_at(bytes, at + 12)),
+    }
+}
+
+fn map_of(bytes: &[u8], maps: u16) -> Option<Block>
+    requires { 256 ≤ length bytes.now }
+    ensures { result ≡ map_at maps bytes.now }
+{
+    if 0 < maps {
+        Some(Block::new(u32_at(bytes, 128)))
+    } else {
+        None
+    }
+}
+
+fn kind_of(number: u32) -> Kind
+    ensures { result ≡ kind_from number }
+{
+    if number == 0 {
+        Kind::Data
+    } else {
+        Kind::Reserved
+    }
+}
+
+fn file_kind_of(number: u8) -> FileKind
+    ensures { result ≡ file_kind_from number }
+{
+    if number == 1 {
+        FileKind::File
+    } else {
+        FileKind::Directory
+    }
 }
 
 fn slot_text(value: Option<&InodeValue>) -> [u8; 256]
@@ -116,7 +308,6 @@ fn number_of_file_kind(kind: FileKind) -> u8
 #[cfg(test)]
 mod tests {
     use super::*;
-    use vx_base::{ExtAttrs, Inode, Page};
 
     fn value(kind: FileKind, mode: u16, size: u64, block: Option<Extent>) -> InodeValue {
         let attrs = ExtAttrs {
@@ -159,5 +350,23 @@ mod tests {
         assert_eq!(rt; &sector[256..], write_inode(&file).as_slice());
         assert!(rt; write_inode(&directory).starts_with(&want));
         assert!(rt; write_inode(&file).starts_with(&[1, 0, 0xa4, 1, 1, 0]));
+    }
+
+    #[test]
+    fn inode_read(rt: HostRuntime) {
+        let file = value(FileKind::File, 0o644, 3, None);
+        let mut sector = inode_sector(None, Some(&file));
+        assert!(rt; matches!(read_inode(&sector, 0), Ok(None)));
+        match read_inode(&sector, 1) {
+            Ok(Some(read)) => {
+                assert_eq!(rt; read.inode, file.inode);
+                assert_eq!(rt; read.map, None);
+            }
+            _ => panic!(rt; "no inode"),
+        }
+        sector[1] = 1;
+        assert!(rt; read_inode(&sector, 0).is_err());
+        sector[511] = 1;
+        assert!(rt; read_inode(&sector, 1).is_err());
     }
 }

@@ -6,7 +6,7 @@ mod directory;
 mod inode;
 mod part;
 
-pub use bitmap::write_bits;
+pub use bitmap::{bits_spelling, read_bits, write_bits};
 pub use directory::{dir_spelling, write_dir};
-pub use inode::{inode_sector, write_inode};
+pub use inode::{Bad, inode_sector, inode_spelling, read_inode, write_inode};
 pub use part::sector_part;

@@ -1,5 +1,5 @@
 -- How the bitmap of a unit is spelled.
-use Rattle.std.specs.Prelude.{ℕ, zero, suc, ◌+◌, ◌*◌, Bool, List, [], ◌∷◌, if◌then◌else◌}
+use Rattle.std.specs.Prelude.{ℕ, zero, suc, ◌+◌, ◌*◌, ◌/◌, ◌%◌, ◌^◌, ◌==◌, Bool, List, [], ◌∷◌, slice_index, if◌then◌else◌}
 
 abbrev pub bit_value : Bool → ℕ
 bit_value b = if b then 1 else 0
@@ -18,3 +18,7 @@ bits_from f i (suc n) = bit_byte f i ∷ bits_from f (i + 8) n
 -- a sector that has bit j set where f says so of j
 unfoldable pub bits_bytes : (ℕ → Bool) → List ℕ
 bits_bytes f = bits_from f 0 512
+
+-- bit j of a sector
+abbrev pub is_set : List ℕ → ℕ → Bool
+is_set s j = slice_index s (j / 8) / 2 ^ (j % 8) % 2 == 1

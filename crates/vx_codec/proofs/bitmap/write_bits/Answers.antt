@@ -1,4 +1,4 @@
-use Rattle.std.proofs.Common.{◌≡◌, ◌+◌, length, arith, ap, length-append, get_or, false, ℕ}
+use Rattle.std.proofs.Common.{length, arith, ap, length-append, get_or, false, ℕ}
 use Rattle.vx_codec.proofs.Bitmaps.{grown, ended}
 use Rattle.vx_codec.proofs.bitmap.write_bits.Goals as goal
 

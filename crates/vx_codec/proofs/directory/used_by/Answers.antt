@@ -1,4 +1,4 @@
-use Rattle.std.proofs.Common.{rules, ◌≡◌, ◌+◌, length, arith, add-one, ap}
+use Rattle.std.proofs.Common.{◌≡◌, length, arith, add-one, ap}
 use Rattle.vx_codec.proofs.Entries.{used_next, used_within}
 use Rattle.vx_codec.proofs.directory.used_by.Goals as goal
 

@@ -1,5 +1,4 @@
-use Rattle.std.proofs.Common.{rules, ◌≡◌, ◌+◌, ◌++◌, length, take, arith, ap, length-append}
-use Rattle.std.specs.Int.{w16, to_le_bytes}
+use Rattle.std.proofs.Common.{rules, ◌≡◌, ◌+◌, length, take, arith, ap}
 use Rattle.vx_layout.specs.Dirs.{entries_bytes}
 use Rattle.vx_codec.proofs.Entries.{count_below, used_within}
 use Rattle.vx_codec.proofs.directory.write_dir.Goals as goal

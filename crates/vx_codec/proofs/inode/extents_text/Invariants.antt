@@ -1,4 +1,4 @@
-use Rattle.std.proofs.Common.{◌≡◌, ◌++◌, ◌*◌, take, length}
+use Rattle.std.proofs.Common.{◌≡◌, ◌*◌, take, length}
 use Rattle.std.specs.List.{flat_map}
 use Rattle.vx_layout.specs.Inodes.{place_bytes}
 use Rattle.vx_codec.proofs.inode.extents_text.Given as goal

@@ -1,4 +1,4 @@
-use Rattle.std.proofs.Common.{◌≡◌, ℕ, List, ◌++◌, ◌-◌, length, replicate, subst, arith, rules}
+use Rattle.std.proofs.Common.{◌≡◌, ℕ, List, ◌++◌, ◌-◌, length, replicate, subst}
 use Rattle.vx_layout.proofs.Filling.{zeros_behind}
 use Rattle.vx_layout.proofs.sheet.Sheet.finish.Goals as goal
 

@@ -1,4 +1,4 @@
-use Rattle.std.proofs.Common.{arith, rules, length, ◌≡◌, ◌≤◌, ◌+◌, ◌-◌, ap, length-take, length-drop}
+use Rattle.std.proofs.Common.{arith, length, ◌≡◌, ◌≤◌, ◌+◌, ap, length-take}
 use Rattle.vx_layout.proofs.Filling.{zeros_stay}
 use Rattle.vx_layout.proofs.sheet.Sheet.put.Goals as goal
 

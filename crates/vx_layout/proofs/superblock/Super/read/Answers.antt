@@ -1,4 +1,4 @@
-use Rattle.std.proofs.Common.{◌≡◌, List, ℕ, Ok, arith, ap, ◌∙◌, sym}
+use Rattle.std.proofs.Common.{ap, ◌∙◌}
 use Rattle.vx_layout.specs.Supers.{super_at}
 use Rattle.vx_layout.proofs.Supers.{super_again, is_found}
 use Rattle.vx_layout.proofs.superblock.Super.read.Goals as goal
