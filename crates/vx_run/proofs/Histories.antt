@@ -15,6 +15,8 @@ use Rattle.vx_model.specs.State.{State}
 use Rattle.vx_model.specs.Step.{step}
 use Rattle.vx_model.specs.Legal.{World, Waiting, after, after_all, Legal, Allowed, IfThere, is_fault, is_idle, state_after, RetAllowed, line_of}
 use Rattle.vx_model.proofs.Runs.{after_all-append, Legal-push}
+use Rattle.vx_dev.specs.Tape as dev
+use Rattle.vx_run.specs.Devices.{Onward}
 use Rattle.vx_run.specs.Cores.{IsRun, IsReply, IsEnded, IsUnmounted, beginning}
 
 abbrev Waits : Type 0
@@ -131,3 +133,12 @@ module _ (opened : ℕ) (h new : List Event) (s : State) (at count : ℕ) (run :
 
   pub lines_unmounted : filter_map (line_of 0) new ≡ filter_map (line_of 0) h
   lines_unmounted = ap (filter_map (line_of 0)) are ∙ filter_map-append (line_of 0) h (event.Unmounted at ∷ []) ∙ append-nil (filter_map (line_of 0) h)
+
+pub length_answered : (h new : List Event) (call : Call) (line at later place : ℕ) (reply answer : Reply)
+    → new ≡ (h ++ begun at line call reply ∷ []) ++ event.Ret later place answer ∷ [] → length new ≡ length h + 2
+length_answered h new call line at later place reply answer are =
+    ap (λ (es : List Event). length es) are
+    ∙ omega (arith, length-append (h ++ begun at line call reply ∷ []) (event.Ret later place answer ∷ []), length-append h (begun at line call reply ∷ []))
+
+pub onward_on : (a b d : dev.State) → Onward a b → Onward b d → Onward a d
+onward_on a b d x y = record { size = y.size ∙ x.size; later = omega (arith, x.later, y.later); reads = y.reads ∙ x.reads; faults = omega (arith, x.faults, y.faults) }

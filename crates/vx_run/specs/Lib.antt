@@ -8,3 +8,5 @@ pub mod Replies
 pub mod Cores
 pub mod Words
 pub mod Reads
+pub mod Ends
+pub mod Outcomes

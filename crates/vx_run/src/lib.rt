@@ -4,12 +4,18 @@
 mod device;
 mod engine;
 mod format;
+mod gate;
 mod homes;
 mod kernel;
 mod metadata;
 mod names;
 mod node;
+mod outcome;
 mod read;
 mod sectors;
 mod table;
+mod top;
 mod words;
+
+pub use gate::{Gate, OpenGate};
+pub use top::{run, Ran};

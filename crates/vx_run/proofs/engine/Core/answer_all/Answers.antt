@@ -1,4 +1,25 @@
+use Rattle.std.proofs.Common.{◌≡◌, ◌+◌, ◌++◌, ◌∷◌, [], ℕ, List, length, ap, ◌∙◌, sym, arith, rules, length-append, append_assoc}
+use Rattle.vx_base.specs.declared.call.Call.{Call}
+use Rattle.vx_base.specs.declared.event.Event.{Event}
+use Rattle.std.specs.Vec.Iter.{into_iter_items}
+use Rattle.vx_run.proofs.Histories.{lines_answered, length_answered, onward_on}
 use Rattle.vx_run.proofs.engine.Core.answer_all.Goals as goal
 
 pub loop-call-preserved : goal.loop-call-preserved
-loop-call-preserved g c = let s = c.next.ensures.steps in let a = c.answer.ensures in let k = c.in-Some.is in ?
+loop-call-preserved g c =
+    let inv = c.loop-call.invariant in
+    let a = c.answer.ensures in
+    let next : into_iter_items c.loop-call.call-iterator ≡ c.in-Some.call ∷ into_iter_items c.next.new.self = search rules in
+    record {
+      core = a.core;
+      all = append_assoc c.loop-call.yielded (c.in-Some.call ∷ []) (into_iter_items c.next.new.self) ∙ ap (λ (t : List Call). c.loop-call.yielded ++ t) (sym next) ∙ inv.all;
+      lines = lines_answered c.loop-call.self.history.items c.answer.new.self.history.items c.in-Some.call (c.loop-call.line + 1) a.answered.at a.answered.later (length c.loop-call.self.history.items) a.answered.reply a.answered.answer (omega arith) a.answered.is
+        ∙ ap (λ (calls : List Call). calls ++ c.in-Some.call ∷ []) inv.lines;
+      number = omega (arith, inv.number, length-append c.loop-call.yielded (c.in-Some.call ∷ []));
+      events = omega (arith, inv.events, length-append c.loop-call.yielded (c.in-Some.call ∷ []), c.answer.new.self.history.ok.0, c.loop-call.self.history.ok.0,
+        length_answered c.loop-call.self.history.items c.answer.new.self.history.items c.in-Some.call (c.loop-call.line + 1) a.answered.at a.answered.later (length c.loop-call.self.history.items) a.answered.reply a.answered.answer a.answered.is);
+      room = omega (arith, inv.room, a.capacity);
+      opened = a.opened ∙ inv.opened;
+      faults = λ before h. a.faults before (inv.faults before h);
+      onward = onward_on _ _ _ inv.onward a.onward;
+    }

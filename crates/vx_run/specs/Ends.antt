@@ -1,0 +1,125 @@
+-- How a run ends, and why.
+use Rattle.std.specs.Prelude.{◌≡◌, ◌⊎◌, ◌<◌, ◌≤◌, ◌+◌, ℕ, Bool, true, false, List, [], Option, Result, Ok, Err, IfSome, filter_map, if◌then◌else◌}
+use Rattle.std.specs.Io.KnownBytes.{Appends}
+use Rattle.vx_base.specs.declared.call.Call.{Call}
+use Rattle.vx_base.specs.declared.event.Event.{Event}
+use Rattle.vx_base.specs.Faults.{Rose}
+use Rattle.vx_dev.specs.Tape as dev
+use Rattle.vx_model.specs.Legal.{line_of}
+use Rattle.vx_script.specs.declared.start.StartRefusal.{StartRefusal}
+use Rattle.vx_script.specs.declared.start.StartRefusal.TheVariants as start
+use Rattle.vx_script.specs.declared.script.ScriptRefusal.{ScriptRefusal}
+use Rattle.vx_script.specs.declared.script.ScriptRefusal.TheVariants as script
+use Rattle.vx_script.specs.Script.{script_of, IsScript}
+use Rattle.vx_script.specs.Start.{status_of, refused_text}
+use Rattle.vx_script.specs.Output.{output_of}
+use Rattle.vx_script.specs.Puts.{AppendsPrefix}
+use Rattle.vx_run.specs.Words.{are_words}
+use Rattle.vx_run.specs.Cores.{IsEnded, IsUnmounted}
+
+-- what a run is given: its words, its script where the source tells it, its device, and the source's faults so far
+pub record Setting : Type 0 where
+  pub words : List (List ℕ)
+  pub script : Option (List ℕ)
+  pub device : dev.State
+  pub script_faults : ℕ
+
+-- the sectors that a file system of one unit needs
+abbrev pub sectors_needed : ℕ
+sectors_needed = 9220
+
+-- the operations of a format
+abbrev pub format_ops : ℕ
+format_ops = 70
+
+-- how a run ends: it is refused before the first call, or it answers all lines, disabled by a failed write or not
+pub data End : Type 0 where
+  refused : (why : StartRefusal) → End
+  finished : (disabled : Bool) (history : List Event) → End
+
+-- the script's bytes, where they are told, are read so
+abbrev pub IsRead : Option (List ℕ) → Result (List Call) ScriptRefusal → Type 0
+IsRead left read = IfSome left (λ bytes. script_of bytes ≡ read)
+
+-- the words and the script are good, and the script has these calls
+pub record Asks (s : Setting) (calls : List Call) : Type 0 where
+  pub words : are_words s.words ≡ true
+  pub script : IsRead s.script (Ok calls)
+  pub form : IsScript calls
+
+-- why a run is not begun, by its words and its script
+abbrev pub IsUnasked : Setting → ℕ → StartRefusal → Type 0
+IsUnasked s faults start.BadWords = are_words s.words ≡ false
+IsUnasked s faults start.TooLong = (are_words s.words ≡ true) × IsRead s.script (Err script.TooLong)
+IsUnasked s faults (start.BadLine line) = (are_words s.words ≡ true) × IsRead s.script (Err (script.BadLine line))
+IsUnasked s faults start.ScriptFault = (are_words s.words ≡ true) × Rose s.script_faults faults
+IsUnasked s faults start.NoMemory = are_words s.words ≡ true
+IsUnasked s faults _ = ⊥
+
+-- the device is too small
+pub record IsTooSmall (s : Setting) (have want : ℕ) : Type 0 where
+  pub calls : List Call
+  pub asks : Asks s calls
+  pub have_is : have ≡ s.device.size
+  pub want_is : want ≡ sectors_needed
+  pub small : s.device.size < sectors_needed
+
+-- the format failed
+pub record IsUnformatted (s : Setting) (d : dev.State) : Type 0 where
+  pub calls : List Call
+  pub asks : Asks s calls
+  pub size : sectors_needed ≤ s.device.size
+  pub rose : Rose s.device.write_faults d.write_faults
+  pub fewer : d.count < s.device.count + format_ops
+
+-- A run that was begun: its history is legal from a new file system on, has the script's lines in order, and answers each.
+pub record IsFinished (s : Setting) (d : dev.State) (disabled : Bool) (history : List Event) : Type 0 where
+  pub asks : Asks s (filter_map (line_of 0) history)
+  pub size : sectors_needed ≤ s.device.size
+  pub ended : IsEnded s.device.count history
+  pub unmounted : disabled ≡ false → IsUnmounted s.device.count history
+  pub fine : disabled ≡ false → d.write_faults ≡ s.device.write_faults
+  pub rose : disabled ≡ true → Rose s.device.write_faults d.write_faults
+  pub formatted : s.device.count + format_ops ≤ d.count
+
+-- the cause of each end
+abbrev pub HasEnded : Setting → dev.State → ℕ → End → Type 0
+HasEnded s d faults (refused (start.DeviceTooSmall have want)) = IsTooSmall s have want × (d ≡ s.device)
+HasEnded s d faults (refused start.WriteFault) = IsUnformatted s d
+HasEnded s d faults (refused why) = IsUnasked s faults why × (d ≡ s.device)
+HasEnded s d faults (finished disabled history) = IsFinished s d disabled history
+
+-- the exit status, where the sink took all of the output or failed
+abbrev pub status_at : End → Bool → ℕ
+status_at (refused why) written = status_of why
+status_at (finished true history) written = 4
+status_at (finished false history) written = if written then 0 else 5
+
+abbrev pub history_at : End → List Event
+history_at (refused why) = []
+history_at (finished disabled history) = history
+
+abbrev pub text_at : End → List ℕ
+text_at (refused why) = refused_text why
+text_at (finished disabled history) = output_of history
+
+-- what a sink took before and after, and its faults
+pub record Taking : Type 0 where
+  pub before : Option (List ℕ)
+  pub now : Option (List ℕ)
+  pub faults_before : ℕ
+  pub faults : ℕ
+
+-- all of the text was taken, without a fault, or a first part of it and then a fault
+abbrev pub Takes : Taking → List ℕ → Bool → Type 0
+Takes t text true = Appends t.before t.now text × (t.faults ≡ t.faults_before)
+Takes t text false = AppendsPrefix t.before t.now text × Rose t.faults_before t.faults
+
+-- what is known of every run
+pub record IsRan (s : Setting) (d : dev.State) (faults : ℕ) (t : Taking) (status : ℕ) (history : List Event) : Type 0 where
+  pub end : End
+  pub written : Bool
+  pub cause : HasEnded s d faults end
+  pub output : Takes t (text_at end) written
+  pub status_is : status ≡ status_at end written
+  pub history_is : history ≡ history_at end
