@@ -10,3 +10,5 @@ pub mod Blocks
 pub mod Histories
 pub mod Faultless
 pub mod Reading
+pub mod Scripts
+pub mod Ending
