@@ -8,7 +8,7 @@ use Rattle.std.specs.declared.option.Option.{Option}
 use Rattle.std.specs.Io.KnownBytes.{Appends}
 use Rattle.std.proofs.KnownBytes.{Appends-nil, Appends-trans}
 use Rattle.vx_base.specs.Faults.{Rose}
-use Rattle.vx_script.specs.Puts.{Puts, PutsAll, PutsPart}
+use Rattle.vx_script.specs.Puts.{PutsOutcome, PutsAll, PutsPart}
 
 -- w waits, then t comes, and l waits; then u comes
 joined_more : (w t p l u q m : List ℕ) → w ++ t ≡ p ++ l → l ++ u ≡ q ++ m → w ++ (t ++ u) ≡ (p ++ q) ++ m
@@ -52,17 +52,17 @@ puts_part {a} {b} {f} {g} {w} {t} u p = record {
 
 -- a piece, and then what the last call says
 pub puts_then : {T E : Type 0} {a b : Option (List ℕ)} {f g : ℕ} {w l t : List ℕ} (c : Option (List ℕ)) (h : ℕ) (m u : List ℕ) (r : Result T E)
-    → PutsAll a b f g w l t → Puts b c g h l m r u → Puts a c f h w m r (t ++ u)
+    → PutsAll a b f g w l t → PutsOutcome b c g h l m r u → PutsOutcome a c f h w m r (t ++ u)
 puts_then c h m u (Ok x) p q = puts_all p q
 puts_then c h m u (Err e) p q = puts_all_part p q
 
 -- a text, and then the bytes that wait are handed on
 pub puts_flushed : {T E : Type 0} {a b : Option (List ℕ)} {f g : ℕ} {w l t : List ℕ} (c : Option (List ℕ)) (h : ℕ) (m : List ℕ) (r : Result T E)
-    → PutsAll a b f g w l t → Puts b c g h l m r [] → Puts a c f h w m r t
-puts_flushed {a = a} {f = f} {w = w} {t = t} c h m r p q = subst (Puts a c f h w m r) (append-nil t) (puts_then c h m [] r p q)
+    → PutsAll a b f g w l t → PutsOutcome b c g h l m r [] → PutsOutcome a c f h w m r t
+puts_flushed {a = a} {f = f} {w = w} {t = t} c h m r p q = subst (PutsOutcome a c f h w m r) (append-nil t) (puts_then c h m [] r p q)
 
 -- what is returned at a fault
-pub puts_at_err : {T E : Type 0} {a b : Option (List ℕ)} {f g : ℕ} {w t : List ℕ} (m : List ℕ) (r : Result T E) (R : E → Type 0) → IsErrAnd r R → PutsPart a b f g w t → Puts a b f g w m r t
+pub puts_at_err : {T E : Type 0} {a b : Option (List ℕ)} {f g : ℕ} {w t : List ℕ} (m : List ℕ) (r : Result T E) (R : E → Type 0) → IsErrAnd r R → PutsPart a b f g w t → PutsOutcome a b f g w m r t
 puts_at_err m (Ok x) R h p = absurd h
 puts_at_err m (Err e) R h p = p
 

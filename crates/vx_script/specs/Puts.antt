@@ -27,6 +27,11 @@ pub record PutsPart (old new : Option (List ℕ)) (faults after : ℕ) (waiting 
   pub later : faults ≤ after
   pub rose : Rose faults after
 
-abbrev pub Puts : {T E : Type 0} → (old new : Option (List ℕ)) (faults after : ℕ) (waiting left : List ℕ) → Result T E → List ℕ → Type 0
-Puts old new faults after waiting left result text =
+abbrev pub PutsOutcome : {T E : Type 0} → (old new : Option (List ℕ)) (faults after : ℕ) (waiting left : List ℕ) → Result T E → List ℕ → Type 0
+PutsOutcome old new faults after waiting left result text =
     MatchResult result (λ _. PutsAll old new faults after waiting left text) (λ _. PutsPart old new faults after waiting text)
+
+-- a call put the text behind the bytes that waited, or broke off; a sink's state says what it has taken and how many of its writes failed
+abbrev pub Puts : {S T E : Type 0} → (taken : S → Option (List ℕ)) (fault_count : S → ℕ) (old new : S) (waiting left : List ℕ) → Result T E → List ℕ → Type 0
+Puts taken fault_count old new waiting left result text =
+    PutsOutcome (taken old) (taken new) (fault_count old) (fault_count new) waiting left result text

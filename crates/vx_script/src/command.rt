@@ -7,8 +7,8 @@ use crate::lines::cut_at;
 use std::alloc::{AllocError, Global};
 use vx_base::{Bytes, Call};
 
-#[tactic(auto, unfolding(crate::specs::Script::call_of))]
 /// The call that a line asks for, if it has the form of one.
+#[tactic(auto, unfolding(crate::specs::Script::call_of))]
 pub fn call_of_line(alloc: Global, line: &[u8]) -> Result<Option<Call>, AllocError>
     ensures { IfOk result (λ call. call ≡ call_of line.now) }
 {

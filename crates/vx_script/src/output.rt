@@ -31,7 +31,8 @@ fn put_output<K: Sink>(
     history: &[Event],
 ) -> Result<(), SinkFault>
     requires { length history.now < 2 ^ 32 }
-    ensures puts { Puts (K.taken out.old) (K.taken out.new) (K.fault_count out.old) (K.fault_count out.new) buffer.old buffer.new result (output_of history.now) }
+    ensures puts { Puts K.taken K.fault_count out.old out.new buffer.old buffer.new result
+        (output_of history.now) }
     ensures empty { OnOk result (buffer.new ≡ []) }
 {
     put_lines(out, buffer, history)?;
@@ -45,7 +46,8 @@ fn put_lines<K: Sink>(
     history: &[Event],
 ) -> Result<(), SinkFault>
     requires { length history.now < 2 ^ 32 }
-    ensures { Puts (K.taken out.old) (K.taken out.new) (K.fault_count out.old) (K.fault_count out.new) buffer.old buffer.new result (output_of history.now) }
+    ensures { Puts K.taken K.fault_count out.old out.new buffer.old buffer.new result
+        (output_of history.now) }
 {
     put_sessions(out, buffer, history)?;
     put_summary(out, buffer, history)
@@ -56,7 +58,8 @@ fn put_sessions<K: Sink>(
     buffer: &mut TextBuffer,
     history: &[Event],
 ) -> Result<(), SinkFault>
-    ensures { Puts (K.taken out.old) (K.taken out.new) (K.fault_count out.old) (K.fault_count out.new) buffer.old buffer.new result (sessions_text history.now 16) }
+    ensures { Puts K.taken K.fault_count out.old out.new buffer.old buffer.new result
+        (sessions_text history.now 16) }
 {
     for session in 0..SESSIONS {
         put_session(out, buffer, history, session)?;
@@ -70,7 +73,8 @@ fn put_session<K: Sink>(
     history: &[Event],
     session: u8,
 ) -> Result<(), SinkFault>
-    ensures { Puts (K.taken out.old) (K.taken out.new) (K.fault_count out.old) (K.fault_count out.new) buffer.old buffer.new result (session_text history.now session) }
+    ensures { Puts K.taken K.fault_count out.old out.new buffer.old buffer.new result
+        (session_text history.now session) }
 {
     for event in history {
         put_event(out, buffer, history, session, event)?;
@@ -86,7 +90,8 @@ fn put_event<K: Sink>(
     session: u8,
     event: &Event,
 ) -> Result<(), SinkFault>
-    ensures { Puts (K.taken out.old) (K.taken out.new) (K.fault_count out.old) (K.fault_count out.new) buffer.old buffer.new result (event_text history.now session event.now) }
+    ensures { Puts K.taken K.fault_count out.old out.new buffer.old buffer.new result
+        (event_text history.now session event.now) }
 {
     match event {
         Event::Ret {
@@ -105,7 +110,8 @@ fn put_answer<K: Sink>(
     call: Option<&Event>,
     answer: &Reply,
 ) -> Result<(), SinkFault>
-    ensures { Puts (K.taken out.old) (K.taken out.new) (K.fault_count out.old) (K.fault_count out.new) buffer.old buffer.new result (answer_text session (option_copied call.entry) answer.now) }
+    ensures { Puts K.taken K.fault_count out.old out.new buffer.old buffer.new result
+        (answer_text session (option_copied call.entry) answer.now) }
 {
     match call {
         Some(
@@ -128,7 +134,8 @@ fn put_line<K: Sink>(
     line: u32,
     answer: &Reply,
 ) -> Result<(), SinkFault>
-    ensures { Puts (K.taken out.old) (K.taken out.new) (K.fault_count out.old) (K.fault_count out.new) buffer.old buffer.new result (line_text session line answer.now) }
+    ensures { Puts K.taken K.fault_count out.old out.new buffer.old buffer.new result
+        (line_text session line answer.now) }
 {
     put_number(out, buffer, session as u64)?;
     put_spaced(out, buffer, &Word::Number(line as u64))?;
@@ -142,7 +149,8 @@ fn put_summary<K: Sink>(
     history: &[Event],
 ) -> Result<(), SinkFault>
     requires { length history.now < 2 ^ 32 }
-    ensures { Puts (K.taken out.old) (K.taken out.new) (K.fault_count out.old) (K.fault_count out.new) buffer.old buffer.new result (summary_text history.now) }
+    ensures { Puts K.taken K.fault_count out.old out.new buffer.old buffer.new result
+        (summary_text history.now) }
 {
     put(out, buffer, ending(history))?;
     put_count(out, buffer, b" calls=", return_count(history))?;
@@ -158,7 +166,8 @@ fn put_count<K: Sink>(
     label: &[u8],
     n: u64,
 ) -> Result<(), SinkFault>
-    ensures { Puts (K.taken out.old) (K.taken out.new) (K.fault_count out.old) (K.fault_count out.new) buffer.old buffer.new result (count_text label.now n) }
+    ensures { Puts K.taken K.fault_count out.old out.new buffer.old buffer.new result
+        (count_text label.now n) }
 {
     put(out, buffer, label)?;
     put_number(out, buffer, n)

@@ -14,7 +14,8 @@ pub fn put_reply<K: Sink>(
     buffer: &mut TextBuffer,
     reply: &Reply,
 ) -> Result<(), SinkFault>
-    ensures { Puts (K.taken out.old) (K.taken out.new) (K.fault_count out.old) (K.fault_count out.new) buffer.old buffer.new result (spaced_list (words_of reply.now)) }
+    ensures { Puts K.taken K.fault_count out.old out.new buffer.old buffer.new result
+        (spaced_list (words_of reply.now)) }
 {
     match reply {
         Reply::Fine | Reply::Begun => put_words(out, buffer, &[Word::Text(b"ok")]),
@@ -109,7 +110,8 @@ fn put_listing<K: Sink>(
     buffer: &mut TextBuffer,
     names: &[Name],
 ) -> Result<(), SinkFault>
-    ensures { Puts (K.taken out.old) (K.taken out.new) (K.fault_count out.old) (K.fault_count out.new) buffer.old buffer.new result (spaced_list (words_of (Reply.Listing names.now))) }
+    ensures { Puts K.taken K.fault_count out.old out.new buffer.old buffer.new result
+        (spaced_list (words_of (Reply.Listing names.now))) }
 {
     put_spaced(out, buffer, &Word::Text(b"ok"))?;
     put_spaced(out, buffer, &Word::Number(names.len() as u64))?;
@@ -117,7 +119,8 @@ fn put_listing<K: Sink>(
 }
 
 fn put_names<K: Sink>(out: &mut K, buffer: &mut TextBuffer, names: &[Name]) -> Result<(), SinkFault>
-    ensures { Puts (K.taken out.old) (K.taken out.new) (K.fault_count out.old) (K.fault_count out.new) buffer.old buffer.new result (flat_map spaced_name names.now) }
+    ensures { Puts K.taken K.fault_count out.old out.new buffer.old buffer.new result
+        (flat_map spaced_name names.now) }
 {
     for name in names {
         put_spaced(out, buffer, &Word::Name(name.as_slice()))?;
@@ -126,7 +129,8 @@ fn put_names<K: Sink>(out: &mut K, buffer: &mut TextBuffer, names: &[Name]) -> R
 }
 
 fn put_bytes<K: Sink>(out: &mut K, buffer: &mut TextBuffer, bytes: &[u8]) -> Result<(), SinkFault>
-    ensures { Puts (K.taken out.old) (K.taken out.new) (K.fault_count out.old) (K.fault_count out.new) buffer.old buffer.new result (spaced_list (words_of (Reply.Got bytes.now))) }
+    ensures { Puts K.taken K.fault_count out.old out.new buffer.old buffer.new result
+        (spaced_list (words_of (Reply.Got bytes.now))) }
 {
     if bytes.is_empty() {
         put_words(
@@ -152,7 +156,8 @@ fn put_refusal<K: Sink>(
     buffer: &mut TextBuffer,
     why: &Refusal,
 ) -> Result<(), SinkFault>
-    ensures { Puts (K.taken out.old) (K.taken out.new) (K.fault_count out.old) (K.fault_count out.new) buffer.old buffer.new result (spaced_list (refusal_words why.now)) }
+    ensures { Puts K.taken K.fault_count out.old out.new buffer.old buffer.new result
+        (spaced_list (refusal_words why.now)) }
 {
     put_spaced(out, buffer, &Word::Text(b"no"))?;
     put_spaced(out, buffer, &Word::Number(number_of_refusal(why) as u64))?;
@@ -161,7 +166,8 @@ fn put_refusal<K: Sink>(
 }
 
 fn put_fields<K: Sink>(out: &mut K, buffer: &mut TextBuffer, why: &Refusal) -> Result<(), SinkFault>
-    ensures { Puts (K.taken out.old) (K.taken out.new) (K.fault_count out.old) (K.fault_count out.new) buffer.old buffer.new result (spaced_list (map decimal (fields_of why.now))) }
+    ensures { Puts K.taken K.fault_count out.old out.new buffer.old buffer.new result
+        (spaced_list (map decimal (fields_of why.now))) }
 {
     match why {
         Refusal::NoSpace { need, free } => put_words(

@@ -41,9 +41,24 @@ const MOST_CALLS: usize = 65_535;
 
 const MOST_LISTS: usize = 1_024;
 
-#[tactic(auto, unfolding(crate::specs::Script::script_of, crate::specs::Script::calls_of_lines))]
 /// The calls of a script, in the order of its lines.
 pub fn parse(alloc: Global, bytes: &[u8]) -> Result<Vec<Call>, ScriptRefusal>
+    ensures ok { IfOk result (λ calls. script_of bytes.now ≡ Ok calls.items) }
+    ensures form { IfOk result (λ calls. IsScript calls.items) }
+    ensures err { IfErr result (λ why. (why ≡ ScriptRefusal.NoMemory) ⊎ (script_of bytes.now ≡ Err why)) }
+{
+    calls_of_script(alloc, bytes)
+}
+
+/// What is read of a script has the form that a script allows.
+pub fn script_law(bytes: &[u8])
+    ensures { IfOk (script_of bytes.now) IsScript }
+{
+    let _ = bytes;
+}
+
+#[tactic(auto, unfolding(crate::specs::Script::script_of, crate::specs::Script::calls_of_lines))]
+fn calls_of_script(alloc: Global, bytes: &[u8]) -> Result<Vec<Call>, ScriptRefusal>
     ensures ok { IfOk result (λ calls. script_of bytes.now ≡ Ok calls.items) }
     ensures err { IfErr result (λ why. (why ≡ ScriptRefusal.NoMemory) ⊎ (script_of bytes.now ≡ Err why)) }
 {
@@ -55,13 +70,6 @@ pub fn parse(alloc: Global, bytes: &[u8]) -> Result<Vec<Call>, ScriptRefusal>
         Some(first) if first == b"sessions 1".as_slice() => calls_of_lines(alloc, lines),
         _ => Err(ScriptRefusal::BadLine { line: 1 }),
     }
-}
-
-/// What is read of a script has the form that a script allows.
-pub fn script_law(bytes: &[u8])
-    ensures { IfOk (script_of bytes.now) IsScript }
-{
-    let _ = bytes;
 }
 
 fn calls_of_lines(alloc: Global, lines: Lines<'_>) -> Result<Vec<Call>, ScriptRefusal>

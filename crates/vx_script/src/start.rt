@@ -73,7 +73,8 @@ fn put_refusal_output<K: Sink>(
     buffer: &mut TextBuffer,
     why: &StartRefusal,
 ) -> Result<(), SinkFault>
-    ensures puts { Puts (K.taken out.old) (K.taken out.new) (K.fault_count out.old) (K.fault_count out.new) buffer.old buffer.new result (refused_text why.now) }
+    ensures puts { Puts K.taken K.fault_count out.old out.new buffer.old buffer.new result
+        (refused_text why.now) }
     ensures empty { OnOk result (buffer.new ≡ []) }
 {
     put_refused_text(out, buffer, why)?;
@@ -85,7 +86,8 @@ fn put_refused_text<K: Sink>(
     buffer: &mut TextBuffer,
     why: &StartRefusal,
 ) -> Result<(), SinkFault>
-    ensures { Puts (K.taken out.old) (K.taken out.new) (K.fault_count out.old) (K.fault_count out.new) buffer.old buffer.new result (refused_text why.now) }
+    ensures { Puts K.taken K.fault_count out.old out.new buffer.old buffer.new result
+        (refused_text why.now) }
 {
     match why {
         StartRefusal::NoMemory => Ok(()),
@@ -98,7 +100,8 @@ fn put_refused_line<K: Sink>(
     buffer: &mut TextBuffer,
     why: &StartRefusal,
 ) -> Result<(), SinkFault>
-    ensures { Puts (K.taken out.old) (K.taken out.new) (K.fault_count out.old) (K.fault_count out.new) buffer.old buffer.new result (refused_line why.now) }
+    ensures { Puts K.taken K.fault_count out.old out.new buffer.old buffer.new result
+        (refused_line why.now) }
 {
     put(out, buffer, b"refused")?;
     put_spaced(out, buffer, &Word::Number(why.status() as u64))?;
@@ -112,7 +115,8 @@ fn put_start_fields<K: Sink>(
     buffer: &mut TextBuffer,
     why: &StartRefusal,
 ) -> Result<(), SinkFault>
-    ensures { Puts (K.taken out.old) (K.taken out.new) (K.fault_count out.old) (K.fault_count out.new) buffer.old buffer.new result (spaced_list (map decimal (fields_of_start why.now))) }
+    ensures { Puts K.taken K.fault_count out.old out.new buffer.old buffer.new result
+        (spaced_list (map decimal (fields_of_start why.now))) }
 {
     match why {
         StartRefusal::DeviceTooSmall { have, want } => put_words(

@@ -10,7 +10,7 @@ const SIZE: usize = 1024;
 /// Bytes that wait until there are enough of them for a write.
 #[derive(Drop)]
 pub struct TextBuffer {
-    bytes: [u8; 1024],
+    bytes: [u8; SIZE],
     len: usize,
 }
 
@@ -29,7 +29,7 @@ impl TextBuffer {
         ensures { result ≡ [] }
     {
         TextBuffer {
-            bytes: [0; 1024],
+            bytes: [0; SIZE],
             len: 0,
         }
     }
@@ -65,7 +65,7 @@ impl TextBuffer {
 
 /// Hands a piece to the sink.
 fn write_all<K: Sink>(out: &mut K, piece: &[u8]) -> Result<(), SinkFault>
-    ensures { Puts (K.taken out.old) (K.taken out.new) (K.fault_count out.old) (K.fault_count out.new) [] [] result piece.now }
+    ensures { Puts K.taken K.fault_count out.old out.new [] [] result piece.now }
 {
     let mut rest = piece;
     while !rest.is_empty() {
@@ -77,7 +77,7 @@ fn write_all<K: Sink>(out: &mut K, piece: &[u8]) -> Result<(), SinkFault>
 
 /// Hands the waiting bytes to the sink.
 pub fn flush<K: Sink>(out: &mut K, buffer: &mut TextBuffer) -> Result<(), SinkFault>
-    ensures puts { Puts (K.taken out.old) (K.taken out.new) (K.fault_count out.old) (K.fault_count out.new) buffer.old buffer.new result [] }
+    ensures puts { Puts K.taken K.fault_count out.old out.new buffer.old buffer.new result [] }
     ensures empty { OnOk result (buffer.new ≡ []) }
 {
     write_all(out, buffer.as_slice())?;
@@ -87,7 +87,7 @@ pub fn flush<K: Sink>(out: &mut K, buffer: &mut TextBuffer) -> Result<(), SinkFa
 
 /// Puts a piece behind the waiting bytes. A fault may lose waiting bytes.
 pub fn put<K: Sink>(out: &mut K, buffer: &mut TextBuffer, piece: &[u8]) -> Result<(), SinkFault>
-    ensures { Puts (K.taken out.old) (K.taken out.new) (K.fault_count out.old) (K.fault_count out.new) buffer.old buffer.new result piece.now }
+    ensures { Puts K.taken K.fault_count out.old out.new buffer.old buffer.new result piece.now }
 {
     if piece.len() <= buffer.room() {
         buffer.append(piece);

@@ -27,7 +27,8 @@ pub fn put_words<K: Sink>(
     buffer: &mut TextBuffer,
     words: &[Word<'_>],
 ) -> Result<(), SinkFault>
-    ensures { Puts (K.taken out.old) (K.taken out.new) (K.fault_count out.old) (K.fault_count out.new) buffer.old buffer.new result (spaced_words words.now) }
+    ensures { Puts K.taken K.fault_count out.old out.new buffer.old buffer.new result
+        (spaced_words words.now) }
 {
     for word in words {
         put_spaced(out, buffer, word)?;
@@ -41,7 +42,8 @@ pub fn put_spaced<K: Sink>(
     buffer: &mut TextBuffer,
     word: &Word<'_>,
 ) -> Result<(), SinkFault>
-    ensures { Puts (K.taken out.old) (K.taken out.new) (K.fault_count out.old) (K.fault_count out.new) buffer.old buffer.new result (spaced (text_of_word word.now)) }
+    ensures { Puts K.taken K.fault_count out.old out.new buffer.old buffer.new result
+        (spaced (text_of_word word.now)) }
 {
     put(out, buffer, b" ")?;
     put_word(out, buffer, word)
@@ -52,7 +54,8 @@ pub fn put_word<K: Sink>(
     buffer: &mut TextBuffer,
     word: &Word<'_>,
 ) -> Result<(), SinkFault>
-    ensures { Puts (K.taken out.old) (K.taken out.new) (K.fault_count out.old) (K.fault_count out.new) buffer.old buffer.new result (text_of_word word.now) }
+    ensures { Puts K.taken K.fault_count out.old out.new buffer.old buffer.new result
+        (text_of_word word.now) }
 {
     match word {
         Word::Text(bytes) => put(out, buffer, bytes),
@@ -65,14 +68,15 @@ pub fn put_word<K: Sink>(
 }
 
 pub fn put_number<K: Sink>(out: &mut K, buffer: &mut TextBuffer, n: u64) -> Result<(), SinkFault>
-    ensures { Puts (K.taken out.old) (K.taken out.new) (K.fault_count out.old) (K.fault_count out.new) buffer.old buffer.new result (decimal n) }
+    ensures { Puts K.taken K.fault_count out.old out.new buffer.old buffer.new result (decimal n) }
 {
     let mut digits = Buffer::new();
     put(out, buffer, digits.format(n).as_bytes())
 }
 
 fn put_name<K: Sink>(out: &mut K, buffer: &mut TextBuffer, name: &[u8]) -> Result<(), SinkFault>
-    ensures { Puts (K.taken out.old) (K.taken out.new) (K.fault_count out.old) (K.fault_count out.new) buffer.old buffer.new result (name_text name.now) }
+    ensures { Puts K.taken K.fault_count out.old out.new buffer.old buffer.new result
+        (name_text name.now) }
 {
     for b in name {
         put_escaped(out, buffer, *b)?;
@@ -81,7 +85,7 @@ fn put_name<K: Sink>(out: &mut K, buffer: &mut TextBuffer, name: &[u8]) -> Resul
 }
 
 fn put_escaped<K: Sink>(out: &mut K, buffer: &mut TextBuffer, b: u8) -> Result<(), SinkFault>
-    ensures { Puts (K.taken out.old) (K.taken out.new) (K.fault_count out.old) (K.fault_count out.new) buffer.old buffer.new result (escaped b) }
+    ensures { Puts K.taken K.fault_count out.old out.new buffer.old buffer.new result (escaped b) }
 {
     if b >= 33 && b <= 126 && b != b'\\' {
         put(out, buffer, &[b])
@@ -92,7 +96,8 @@ fn put_escaped<K: Sink>(out: &mut K, buffer: &mut TextBuffer, b: u8) -> Result<(
 }
 
 fn put_hex<K: Sink>(out: &mut K, buffer: &mut TextBuffer, bytes: &[u8]) -> Result<(), SinkFault>
-    ensures { Puts (K.taken out.old) (K.taken out.new) (K.fault_count out.old) (K.fault_count out.new) buffer.old buffer.new result (hex_text bytes.now) }
+    ensures { Puts K.taken K.fault_count out.old out.new buffer.old buffer.new result
+        (hex_text bytes.now) }
 {
     for b in bytes {
         put(out, buffer, &hex_digits(*b))?;
@@ -132,7 +137,8 @@ fn octal_digit(n: u16) -> u8
 }
 
 fn put_flags<K: Sink>(out: &mut K, buffer: &mut TextBuffer, flags: u8) -> Result<(), SinkFault>
-    ensures { Puts (K.taken out.old) (K.taken out.new) (K.fault_count out.old) (K.fault_count out.new) buffer.old buffer.new result (flags_text flags) }
+    ensures { Puts K.taken K.fault_count out.old out.new buffer.old buffer.new result
+        (flags_text flags) }
 {
     put_flag(out, buffer, flags, 1, b"align")?;
     put_flag(out, buffer, flags, 2, b"contig")?;
@@ -150,7 +156,8 @@ fn put_flag<K: Sink>(
     name: &[u8],
 ) -> Result<(), SinkFault>
     requires { 1 ≤ bit }
-    ensures { Puts (K.taken out.old) (K.taken out.new) (K.fault_count out.old) (K.fault_count out.new) buffer.old buffer.new result (flag_text flags bit name.now) }
+    ensures { Puts K.taken K.fault_count out.old out.new buffer.old buffer.new result
+        (flag_text flags bit name.now) }
 {
     if flags & bit == 0 {
         Ok(())
@@ -166,7 +173,7 @@ fn put_after_comma<K: Sink>(
     buffer: &mut TextBuffer,
     name: &[u8],
 ) -> Result<(), SinkFault>
-    ensures { Puts (K.taken out.old) (K.taken out.new) (K.fault_count out.old) (K.fault_count out.new) buffer.old buffer.new result (44 ∷ name.now) }
+    ensures { Puts K.taken K.fault_count out.old out.new buffer.old buffer.new result (44 ∷ name.now) }
 {
     put(out, buffer, b",")?;
     put(out, buffer, name)
@@ -174,7 +181,8 @@ fn put_after_comma<K: Sink>(
 
 /// Puts a dash where no flag is set.
 fn put_dash<K: Sink>(out: &mut K, buffer: &mut TextBuffer, flags: u8) -> Result<(), SinkFault>
-    ensures { Puts (K.taken out.old) (K.taken out.new) (K.fault_count out.old) (K.fault_count out.new) buffer.old buffer.new result (dash_text flags) }
+    ensures { Puts K.taken K.fault_count out.old out.new buffer.old buffer.new result
+        (dash_text flags) }
 {
     if flags & 31 == 0 {
         put(out, buffer, b"-")
