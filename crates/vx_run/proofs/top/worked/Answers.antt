@@ -1,9 +1,16 @@
-use Rattle.std.proofs.Common.{◌≡◌, ℕ, sym, ◌∙◌, ap, refl, arith, rules}
+use Rattle.std.proofs.Common.{◌≡◌, ℕ, List, map, sym, ◌∙◌, subst, refl, arith}
+use Rattle.std.specs.String.{string_bytes}
+use Rattle.vx_base.specs.declared.call.Call.{Call}
+use Rattle.vx_run.specs.Cores.{IsEnded, IsUnmounted, TellsFaults}
+use Rattle.vx_run.specs.Ends.{Setting, Asks}
+use Rattle.vx_run.proofs.Ending.{none_of, some_of, enabled_tells}
 use Rattle.vx_run.proofs.Scripts.{ended_unasked, all_built}
 use Rattle.vx_run.proofs.top.worked.Goals as goal
 
 pub returns-in-Err-clause-ended : goal.returns-in-Err-clause-ended
-returns-in-Err-clause-ended g c = ended_unasked _ _ _ c.in-Err.why (c.in-Err.ensures.refused (g.D.BlockDev.state c.args.dev.now)) refl
+returns-in-Err-clause-ended g c = ended_unasked
+    (record { words = map string_bytes c.args.words.now; script = g.S.Source.left c.args.script.now; device = g.D.BlockDev.state c.args.dev.now; script_faults = g.S.Source.fault_count c.args.script.now })
+    (g.D.BlockDev.state c.args.dev.now) (g.S.Source.fault_count c.asked.new.script) c.in-Err.why (c.in-Err.ensures.refused (g.D.BlockDev.state c.args.dev.now)) refl
 
 pub returns-then-have-lt-SECTORS-clause-ended : goal.returns-then-have-lt-SECTORS-clause-ended
 returns-then-have-lt-SECTORS-clause-ended g c = (record {
@@ -25,8 +32,8 @@ returns-in-Err-format-clause-ended g c = record {
     calls = c.in-Ok.calls.items;
     asks = c.in-Ok.ensures.asks (g.D.BlockDev.state c.args.dev.now);
     size = omega (arith, c.sectors-have.ensures, c.if-have-lt-SECTORS.false);
-    rose = ?;
-    fewer = ?;
+    rose = c.in-Err-format.ensures.cause.failed;
+    fewer = c.in-Err-format.ensures.fewer;
   }
 
 pub answer_all-requires-clause-built : goal.answer_all-requires-clause-built
@@ -36,12 +43,19 @@ pub answer_all-requires-clause-few : goal.answer_all-requires-clause-few
 answer_all-requires-clause-few g c = let a = c.in-Ok.ensures.asks (g.D.BlockDev.state c.args.dev.now) in a.form.few_calls
 
 pub returns-clause-ended : goal.returns-clause-ended
-returns-clause-ended g c = record {
-    asks = ?;
-    size = omega (arith, c.sectors-have.ensures, c.if-have-lt-SECTORS.false);
-    ended = ?;
-    unmounted = ?;
-    fine = ?;
-    rose = ?;
-    formatted = ?;
-  }
+returns-clause-ended g c =
+    let history = c.unmount.new.self.history.items in
+    let before = (g.D.BlockDev.state c.args.dev.now).write_faults in
+    let s : Setting = record { words = map string_bytes c.args.words.now; script = g.S.Source.left c.args.script.now; device = g.D.BlockDev.state c.args.dev.now; script_faults = g.S.Source.fault_count c.args.script.now } in
+    let opened : c.unmount.new.self.opened ≡ (g.D.BlockDev.state c.args.dev.now).count = c.unmount.ensures.opened ∙ c.answer_all.ensures.opened ∙ c.in-Ok-fresh.ensures.opened ∙ c.ops.ensures.number in
+    let tells : TellsFaults before (g.D.BlockDev.state c.unmount.new.dev).write_faults c.unmount.new.self.disabled =
+      c.unmount.ensures.faults before (c.answer_all.ensures.faults before (enabled_tells before _ _ c.in-Ok-fresh.ensures.enabled c.in-Ok-format.ensures.cause.fine)) in
+    record {
+      asks = subst (λ (calls : List Call). Asks s calls) (sym (c.unmount.ensures.lines ∙ c.answer_all.ensures.lines)) (c.in-Ok.ensures.asks (g.D.BlockDev.state c.args.dev.now));
+      size = omega (arith, c.sectors-have.ensures, c.if-have-lt-SECTORS.false);
+      ended = subst (λ (o : ℕ). IsEnded o history) opened c.unmount.ensures.ended;
+      unmounted = λ off. subst (λ (o : ℕ). IsUnmounted o history) opened (c.unmount.ensures.unmounted (none_of c.unmount.new.self.disabled c.is_some.result c.is_some.ensures off));
+      fine = λ off. tells.none (none_of c.unmount.new.self.disabled c.is_some.result c.is_some.ensures off);
+      rose = λ on. tells.some (some_of c.unmount.new.self.disabled c.is_some.result c.is_some.ensures on);
+      formatted = omega (arith, c.in-Ok-format.ensures.count, c.answer_all.ensures.onward.later, c.unmount.ensures.onward.later);
+    }
