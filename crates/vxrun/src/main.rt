@@ -7,7 +7,7 @@ use std::io;
 use std::process::ExitCode;
 use vx_base::{StdSink, StdSource};
 use vx_filedev::FileDev;
-use vx_run::{run, OpenGate};
+use vx_run::{OpenGate, Ran, run};
 
 /// The sectors of an image of one unit.
 const FRESH_SECTORS: u64 = 9_220;
@@ -22,8 +22,20 @@ fn main(rt: HostRuntime) -> io::Result<ExitCode> {
         Ok(dev) => {
             let mut script = StdSource::new(rt.stdin());
             let mut out = StdSink::new(rt.stdout());
-            let ran = run(&rt, rt.alloc(), &words, dev, &mut script, &mut out, &OpenGate);
-            Ok(ExitCode::from(ran.status))
+            let Ran {
+                status,
+                dev: _,
+                history: _,
+            } = run(
+                &rt,
+                rt.alloc(),
+                &words,
+                dev,
+                &mut script,
+                &mut out,
+                &OpenGate,
+            );
+            Ok(ExitCode::from(status))
         }
         Err(_) => {
             println!(rt; "cannot open")?;
