@@ -45,7 +45,6 @@ begun at line call reply = event.Do at 0 line call reply
 module _ (w : World) (s s2 : State) (call : Call) (line at later place : ℕ) (reply answer : Reply)
     (state_is : w.state ≡ s) (idle : w.waiting ≡ map.empty) (mounted : w.unmounted ≡ false) (low : w.at ≤ at) (order : at ≤ later) (next : w.next ≡ place)
     (is : IsReply s call reply s2) (fits : (answer ≡ reply) ⊎ (is_fault answer ≡ true)) where
-
   do_allowed : Allowed w (begun at line call reply)
   do_allowed = record {
     later = low;
@@ -84,15 +83,18 @@ run_answered opened h new s s2 call line at later count count2 reply answer run 
     let e2 : Event = event.Ret later (length h) answer in
     let first : after_all (beginning opened) (h ++ e1 ∷ []) ≡ after w e1 = after_all-append (beginning opened) h (e1 ∷ []) in
     let second : after_all (beginning opened) ((h ++ e1 ∷ []) ++ e2 ∷ []) ≡ after (after w e1) e2 =
-      after_all-append (beginning opened) (h ++ e1 ∷ []) (e2 ∷ []) ∙ ap (λ (x : World). after x e2) first in
+    after_all-append (beginning opened) (h ++ e1 ∷ []) (e2 ∷ []) ∙ ap (λ (x : World). after x e2) first in
     let legal1 = Legal-push (beginning opened) h e1 run.legal (do_allowed w s s2 call line at later (length h) reply answer run.state_is run.idle run.mounted low2 order run.next is fits) in
     let legal2 = Legal-push (beginning opened) (h ++ e1 ∷ []) e2 legal1
-      (subst (λ (x : World). Allowed x e2) (sym first) (ret_allowed w s s2 call line at later (length h) reply answer run.state_is run.idle run.mounted low2 order run.next is fits)) in
+    (subst (λ (x : World). Allowed x e2) (sym first) (ret_allowed w s s2 call line at later (length h) reply answer run.state_is run.idle run.mounted low2 order run.next is fits)) in
     let P : World → Type 0 = λ x. (x.state ≡ s2) × (x.waiting ≡ map.empty) × (x.next ≡ length h + 1 + 1) × (x.at ≤ count2) × (x.unmounted ≡ false) in
-    let facts = subst P (sym second)
-      (state2 w s s2 call line at later (length h) reply answer run.state_is run.idle run.mounted low2 order run.next is fits,
-       idle2 w s s2 call line at later (length h) reply answer run.state_is run.idle run.mounted low2 order run.next is fits,
-       omega (arith, run.next), high, run.mounted) in
+    let facts = subst P (sym second) (
+      state2 w s s2 call line at later (length h) reply answer run.state_is run.idle run.mounted low2 order run.next is fits,
+      idle2 w s s2 call line at later (length h) reply answer run.state_is run.idle run.mounted low2 order run.next is fits,
+      omega (arith, run.next),
+      high,
+      run.mounted,
+    ) in
     let Q : List Event → Type 0 = λ es. IsRun opened es s2 count2 in
     subst Q (sym are) (record {
       legal = legal2;
@@ -124,7 +126,7 @@ module _ (opened : ℕ) (h new : List Event) (s : State) (at count : ℕ) (run :
   pub ended_unmounted : IsEnded opened new
   ended_unmounted = record {
     legal = subst (λ (es : List Event). Legal (beginning opened) es) (sym are) (Legal-push (beginning opened) h (event.Unmounted at) run.legal
-      (record { later = omega (arith, run.at, low); mounted = run.mounted; comes = ap (λ (m : Waits). map.len m) run.idle ∙ map.len-empty nat_cmp Waiting }));
+        (record { later = omega (arith, run.at, low); mounted = run.mounted; comes = ap (λ (m : Waits). map.len m) run.idle ∙ map.len-empty nat_cmp Waiting }));
     answered = ap (λ (x : World). x.waiting) last_world ∙ run.idle;
   }
 

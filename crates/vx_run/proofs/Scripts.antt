@@ -26,9 +26,9 @@ too_long bytes long = let test : nat_lt most_bytes (length bytes) ≡ true = gri
 
 pub script_of-take : (bytes : List ℕ) → script_of (take 4194305 bytes) ≡ script_of bytes
 script_of-take bytes = elim (cases_lt most_bytes (length bytes)) [
-    | inl long ↦ too_long (take 4194305 bytes) (omega (arith, long, length-take 4194305 bytes)) ∙ sym (too_long bytes long)
-    | inr short ↦ ap script_of (take_all 4194305 bytes (omega (arith, short)))
-  ]
+  | inl long ↦ too_long (take 4194305 bytes) (omega (arith, long, length-take 4194305 bytes)) ∙ sym (too_long bytes long)
+  | inr short ↦ ap script_of (take_all 4194305 bytes (omega (arith, short)))
+]
 
 -- what was read of the source is read as the whole script
 pub is_read : (left : Option (List ℕ)) (bytes : List ℕ) (read : Result (List Call) ScriptRefusal) → HasRead left bytes → script_of bytes ≡ read → IsRead left read

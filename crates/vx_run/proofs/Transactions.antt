@@ -17,14 +17,14 @@ few_set [] s x = omega arith
 few_set (e ∷ es) s x =
     let P : List Image → Type 0 = λ b. length b ≤ length (e ∷ es) + 1 in
     by_cases (nat_lt e.0 s) P (e ∷ batch_set es s x) (cond (e.0 == s) ((s, x) ∷ es) ((s, x) ∷ e ∷ es)) (omega (arith, few_set es s x))
-      (by_cases (e.0 == s) P ((s, x) ∷ es) ((s, x) ∷ e ∷ es) (omega arith) (omega arith))
+    (by_cases (e.0 == s) P ((s, x) ∷ es) ((s, x) ∷ e ∷ es) (omega arith) (omega arith))
 
 some_set : (batch : List Image) (s : ℕ) (x : List ℕ) → 0 < length (batch_set batch s x)
 some_set [] s x = omega arith
 some_set (e ∷ es) s x =
     let P : List Image → Type 0 = λ b. 0 < length b in
     by_cases (nat_lt e.0 s) P (e ∷ batch_set es s x) (cond (e.0 == s) ((s, x) ∷ es) ((s, x) ∷ e ∷ es)) (omega arith)
-      (by_cases (e.0 == s) P ((s, x) ∷ es) ((s, x) ∷ e ∷ es) (omega arith) (omega arith))
+    (by_cases (e.0 == s) P ((s, x) ∷ es) ((s, x) ∷ e ∷ es) (omega arith) (omega arith))
 
 all_set : (P : Image → Type 0) (batch : List Image) (s : ℕ) (x : List ℕ) → All P batch → P (s, x) → All P (batch_set batch s x)
 all_set P [] s x h p = All-cons P (s, x) [] p h
@@ -32,7 +32,7 @@ all_set P (e ∷ es) s x h p =
     let rest : All P es = All-tail P e es h in
     let Q : List Image → Type 0 = λ b. All P b in
     by_cases (nat_lt e.0 s) Q (e ∷ batch_set es s x) (cond (e.0 == s) ((s, x) ∷ es) ((s, x) ∷ e ∷ es)) (All-cons P e (batch_set es s x) (All-head P e es h) (all_set P es s x rest p))
-      (by_cases (e.0 == s) Q ((s, x) ∷ es) ((s, x) ∷ e ∷ es) (All-cons P (s, x) es p rest) (All-cons P (s, x) (e ∷ es) p h))
+    (by_cases (e.0 == s) Q ((s, x) ∷ es) ((s, x) ∷ e ∷ es) (All-cons P (s, x) es p rest) (All-cons P (s, x) (e ∷ es) p h))
 
 pub part_none : (batch : List Image) → batch ≡ [] → IsPart 0 batch
 part_none batch none = subst (λ (b : List Image). IsPart 0 b) (sym none) (record { few = omega arith; inside = λ k d lt. absurd (omega (arith, lt)) })

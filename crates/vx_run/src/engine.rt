@@ -171,7 +171,12 @@ fn made_by(reply: &Reply) -> Option<u32>
 }
 
 /// Does a call in memory, and answers its reply, twice.
-fn replies(metadata: &mut Metadata, disabled: Option<u64>, alloc: Global, call: &Call) -> (Reply, Reply)
+fn replies(
+    metadata: &mut Metadata,
+    disabled: Option<u64>,
+    alloc: Global,
+    call: &Call,
+) -> (Reply, Reply)
     requires { has_step call.now ≡ true }
     ensures copy { result.1 ≡ result.0 }
     ensures reply { IsReply (state_of metadata.old) call.now result.0 (state_of metadata.new) }

@@ -6,14 +6,14 @@ ghost use Rattle.vx_log.specs.Logs.{is_body_out};
 ghost use Rattle.vx_run.specs.Devices.{Onward};
 
 use crate::device::{pass, put};
-use crate::format::{superblock, LOG_BLOCKS};
+use crate::format::{LOG_BLOCKS, superblock};
 use crate::homes::Homes;
 use crate::metadata::Metadata;
 use crate::sectors::stage;
 use std::alloc::{AllocError, Global};
 use vx_base::SectorNo;
 use vx_dev::{BlockDev, DevFault};
-use vx_log::{log_length, Batch, Log};
+use vx_log::{Batch, Log, log_length};
 
 /// What a mount needs beside its device to make transactions durable.
 #[derive(Drop)]
@@ -38,7 +38,12 @@ impl Journal {
     }
 
     /// Makes a transaction durable: its sectors go into the log, and the head sector then names them.
-    pub fn commit<D: BlockDev>(&mut self, dev: &mut D, metadata: &Metadata, made: u32) -> Result<(), DevFault>
+    pub fn commit<D: BlockDev>(
+        &mut self,
+        dev: &mut D,
+        metadata: &Metadata,
+        made: u32,
+    ) -> Result<(), DevFault>
         requires rest { IsAtRest self.old }
         requires size { 9220 ≤ (D.state dev.old).size }
         requires inode { made < 128 }

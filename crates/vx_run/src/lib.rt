@@ -18,4 +18,7 @@ mod top;
 mod words;
 
 pub use gate::{Gate, OpenGate};
-pub use top::{run, Ran};
+pub use top::{Ran, run};
+
+#[cfg(test)]
+mod tests;

@@ -14,7 +14,7 @@ use crate::names::NameTable;
 use crate::node::{DirectoryNode, PlainNode};
 use crate::table::{NodeTable, lowest_unused, walk};
 use std::alloc::{AllocError, Global};
-use vx_base::{copy_of_reply, Call, DirEntry, Ino, Name, Refusal, Reply};
+use vx_base::{Call, DirEntry, Ino, Name, Refusal, Reply, copy_of_reply};
 use vx_path::{SplitRefusal, split};
 
 const UNITS: u32 = 1;

@@ -20,7 +20,11 @@ pub enum ReadRefusal {
 }
 
 /// Takes the next bytes, at most so many; 0 comes only at the end.
-fn read_piece<S: Source>(source: &mut S, piece: &mut [u8], most: usize) -> Result<usize, SourceFault>
+fn read_piece<S: Source>(
+    source: &mut S,
+    piece: &mut [u8],
+    most: usize,
+) -> Result<usize, SourceFault>
     requires some { 0 < most }
     requires room { most ≤ length piece.old }
     ensures bound { IfOk result (λ n. n ≤ most) }

@@ -5,7 +5,9 @@ ghost use Rattle.vx_run.specs.Devices.{IsTransaction, IsPart};
 
 use crate::metadata::Metadata;
 use crate::node::PlainNode;
-use vx_base::{Block, DirEntry, ExtAttrs, Extent, FileKind, Inode, InodeValue, Kind, Page, SectorNo};
+use vx_base::{
+    Block, DirEntry, ExtAttrs, Extent, FileKind, Inode, InodeValue, Kind, Page, SectorNo,
+};
 use vx_codec::{inode_sector, sector_part, write_bits, write_dir};
 use vx_log::Batch;
 
@@ -17,6 +19,7 @@ const INODES: u32 = 1030;
 
 /// The root's block, the first data block, and its first sector.
 const ROOT_BLOCK: u32 = 547;
+
 const ROOT_SECTOR: u32 = 1094;
 
 const ROOT: u32 = 2;
@@ -35,7 +38,10 @@ pub fn stage(batch: &mut Batch, metadata: &Metadata, made: u32)
     ensures { IsTransaction batch.new }
 {
     stage_first(batch, metadata);
-    batch.set(SectorNo::new(INODES + made / 2), &inode_pair(metadata, made / 2));
+    batch.set(
+        SectorNo::new(INODES + made / 2),
+        &inode_pair(metadata, made / 2),
+    );
     let block = root_block(metadata);
     batch.set(SectorNo::new(ROOT_SECTOR), &sector_part(&block, 0));
     batch.set(SectorNo::new(ROOT_SECTOR + 1), &sector_part(&block, 1));
@@ -48,7 +54,10 @@ fn stage_first(batch: &mut Batch, metadata: &Metadata)
 {
     if metadata.entries.len() == 1 {
         batch.set(SectorNo::new(BITMAP), &bitmap(metadata));
-        batch.set(SectorNo::new(INODES + ROOT / 2), &inode_pair(metadata, ROOT / 2));
+        batch.set(
+            SectorNo::new(INODES + ROOT / 2),
+            &inode_pair(metadata, ROOT / 2),
+        );
     }
 }
 
@@ -87,7 +96,10 @@ fn inode_value(metadata: &Metadata, ino: u32) -> Option<InodeValue> {
             first: [None; 6],
             map: None,
         }),
-        Some(PlainNode::Directory(directory)) => Some(directory_value(directory.mode, &metadata.entries)),
+        Some(PlainNode::Directory(directory)) => Some(directory_value(
+            directory.mode,
+            &metadata.entries,
+        )),
     }
 }
 

@@ -9,14 +9,14 @@ use crate::engine::Core;
 use crate::format::format;
 use crate::gate::Gate;
 use crate::outcome::Outcome;
-use crate::read::{read_all, ReadRefusal};
+use crate::read::{ReadRefusal, read_all};
 use crate::words::are_words;
 use std::alloc::Global;
 use std::sync::Wait;
 use std::thread::Threads;
 use vx_base::{Call, Event, History, Sink, Source};
 use vx_dev::BlockDev;
-use vx_script::{parse, render, render_refusal, script_law, StartRefusal};
+use vx_script::{StartRefusal, parse, render, render_refusal, script_law};
 
 /// The sectors that a file system of one unit and a log of 512 blocks needs.
 const SECTORS: u64 = 9_220;
@@ -79,7 +79,11 @@ fn status(disabled: bool, written: bool) -> u8
 }
 
 /// The calls that the words and the script ask for.
-fn asked<S: Source>(alloc: Global, words: &[String], script: &mut S) -> Result<Vec<Call>, StartRefusal>
+fn asked<S: Source>(
+    alloc: Global,
+    words: &[String],
+    script: &mut S,
+) -> Result<Vec<Call>, StartRefusal>
     ensures asks { (device : State) → IfOk result (λ calls. Asks
         (record { words = map string_bytes words.now; script = S.left script.old; device = device; script_faults = S.fault_count script.old }) calls.items) }
     ensures refused { (device : State) → IfErr result (IsUnasked
@@ -101,7 +105,12 @@ fn asked<S: Source>(alloc: Global, words: &[String], script: &mut S) -> Result<V
 }
 
 /// Does all but the output.
-fn worked<D: BlockDev, S: Source>(alloc: Global, words: &[String], dev: &mut D, script: &mut S) -> Outcome
+fn worked<D: BlockDev, S: Source>(
+    alloc: Global,
+    words: &[String],
+    dev: &mut D,
+    script: &mut S,
+) -> Outcome
     ensures ended { HasEnded
         (record { words = map string_bytes words.now; script = S.left script.old; device = D.state dev.old; script_faults = S.fault_count script.old })
         (D.state dev.new) (S.fault_count script.new) (end_of result) }
@@ -113,7 +122,10 @@ fn worked<D: BlockDev, S: Source>(alloc: Global, words: &[String], dev: &mut D, 
     };
     let have = dev.sectors();
     if have < SECTORS {
-        return Outcome::Refused(StartRefusal::DeviceTooSmall { have, want: SECTORS });
+        return Outcome::Refused(StartRefusal::DeviceTooSmall {
+            have,
+            want: SECTORS,
+        });
     }
     let mut core = match Core::fresh(alloc, calls.len(), dev.ops()) {
         Ok(core) => core,

@@ -9,7 +9,9 @@ pub fn are_words(words: &[String]) -> bool
 {
     match words {
         [verb, _, option, list] => {
-            verb.as_bytes() == b"fresh".as_slice() && option.as_bytes() == b"-o".as_slice() && list.as_bytes() == b"log".as_slice()
+            verb.as_bytes() == b"fresh".as_slice()
+                && option.as_bytes() == b"-o".as_slice()
+                && list.as_bytes() == b"log".as_slice()
         }
         _ => false,
     }

@@ -1,10 +1,9 @@
 //! `vxrun`: makes a new file system on an image file, runs a script on it, and prints the answers.
 #![tactic(auto)]
 
-use std::env;
 use std::fs::{File, OpenOptions};
-use std::io;
 use std::process::ExitCode;
+use std::{env, io};
 use vx_base::{StdSink, StdSource};
 use vx_filedev::FileDev;
 use vx_run::{OpenGate, Ran, run};

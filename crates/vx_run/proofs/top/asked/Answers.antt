@@ -12,8 +12,8 @@ use Rattle.vx_run.proofs.top.asked.Goals as goal
 pub returns-in-Ok-parse-clause-asks : goal.returns-in-Ok-parse-clause-asks
 returns-in-Ok-parse-clause-asks g c = λ device.
     asks_of _ c.in-Ok.bytes.items c.in-Ok-parse.calls.items (sym c.are_words.ensures ∙ c.if-not-are_words.false) c.in-Ok.ensures.bytes
-      (sym (ap script_of c.deref-2.ensures.value) ∙ c.in-Ok-parse.ensures.ok)
-      (subst (λ (bytes : List ℕ). IfOk (script_of bytes) IsScript) c.deref.ensures.value c.script_law.ensures)
+    (sym (ap script_of c.deref-2.ensures.value) ∙ c.in-Ok-parse.ensures.ok)
+    (subst (λ (bytes : List ℕ). IfOk (script_of bytes) IsScript) c.deref.ensures.value c.script_law.ensures)
 
 pub returns-clause-refused : goal.returns-clause-refused
 returns-clause-refused g c = λ device.
@@ -22,4 +22,4 @@ returns-clause-refused g c = λ device.
     let why = c.in-Err.why in
     let cause : (why ≡ NoMemory) ⊎ (script_of bytes ≡ Err why) = subst (λ (b : List ℕ). (why ≡ NoMemory) ⊎ (script_of b ≡ Err why)) c.deref-2.ensures.value c.in-Err.ensures.err in
     subst (λ (w : StartRefusal). IsUnasked s (g.S.Source.fault_count c.read_all.new.source) w) (sym c.from.ensures)
-      (unasked_of s (g.S.Source.fault_count c.read_all.new.source) bytes why (sym c.are_words.ensures ∙ c.if-not-are_words.false) c.in-Ok.ensures.bytes cause)
+    (unasked_of s (g.S.Source.fault_count c.read_all.new.source) bytes why (sym c.are_words.ensures ∙ c.if-not-are_words.false) c.in-Ok.ensures.bytes cause)

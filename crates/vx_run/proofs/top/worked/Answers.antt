@@ -13,13 +13,16 @@ returns-in-Err-clause-ended g c = ended_unasked
     (g.D.BlockDev.state c.args.dev.now) (g.S.Source.fault_count c.asked.new.script) c.in-Err.why (c.in-Err.ensures.refused (g.D.BlockDev.state c.args.dev.now)) refl
 
 pub returns-then-have-lt-SECTORS-clause-ended : goal.returns-then-have-lt-SECTORS-clause-ended
-returns-then-have-lt-SECTORS-clause-ended g c = (record {
+returns-then-have-lt-SECTORS-clause-ended g c = (
+  record {
     calls = c.in-Ok.calls.items;
     asks = c.in-Ok.ensures.asks (g.D.BlockDev.state c.args.dev.now);
     have_is = c.sectors-have.ensures;
     want_is = refl;
     small = omega (arith, c.sectors-have.ensures, c.if-have-lt-SECTORS.true);
-  }, refl)
+  },
+  refl,
+)
 
 pub fresh-requires : goal.fresh-requires
 fresh-requires g c = let a = c.in-Ok.ensures.asks (g.D.BlockDev.state c.args.dev.now) in omega (arith, a.form.few_calls, c.len.ensures, c.in-Ok.calls.ok.0)
@@ -29,12 +32,12 @@ returns-in-Err-fresh-clause-ended g c = let a = c.in-Ok.ensures.asks (g.D.BlockD
 
 pub returns-in-Err-format-clause-ended : goal.returns-in-Err-format-clause-ended
 returns-in-Err-format-clause-ended g c = record {
-    calls = c.in-Ok.calls.items;
-    asks = c.in-Ok.ensures.asks (g.D.BlockDev.state c.args.dev.now);
-    size = omega (arith, c.sectors-have.ensures, c.if-have-lt-SECTORS.false);
-    rose = c.in-Err-format.ensures.cause.failed;
-    fewer = c.in-Err-format.ensures.fewer;
-  }
+  calls = c.in-Ok.calls.items;
+  asks = c.in-Ok.ensures.asks (g.D.BlockDev.state c.args.dev.now);
+  size = omega (arith, c.sectors-have.ensures, c.if-have-lt-SECTORS.false);
+  rose = c.in-Err-format.ensures.cause.failed;
+  fewer = c.in-Err-format.ensures.fewer;
+}
 
 pub answer_all-requires-clause-built : goal.answer_all-requires-clause-built
 answer_all-requires-clause-built g c = let a = c.in-Ok.ensures.asks (g.D.BlockDev.state c.args.dev.now) in all_built c.in-Ok.calls.items a.form
@@ -49,7 +52,7 @@ returns-clause-ended g c =
     let s : Setting = record { words = map string_bytes c.args.words.now; script = g.S.Source.left c.args.script.now; device = g.D.BlockDev.state c.args.dev.now; script_faults = g.S.Source.fault_count c.args.script.now } in
     let opened : c.unmount.new.self.opened ≡ (g.D.BlockDev.state c.args.dev.now).count = c.unmount.ensures.opened ∙ c.answer_all.ensures.opened ∙ c.in-Ok-fresh.ensures.opened ∙ c.ops.ensures.number in
     let tells : TellsFaults before (g.D.BlockDev.state c.unmount.new.dev).write_faults c.unmount.new.self.disabled =
-      c.unmount.ensures.faults before (c.answer_all.ensures.faults before (enabled_tells before _ _ c.in-Ok-fresh.ensures.enabled c.in-Ok-format.ensures.cause.fine)) in
+    c.unmount.ensures.faults before (c.answer_all.ensures.faults before (enabled_tells before _ _ c.in-Ok-fresh.ensures.enabled c.in-Ok-format.ensures.cause.fine)) in
     record {
       asks = subst (λ (calls : List Call). Asks s calls) (sym (c.unmount.ensures.lines ∙ c.answer_all.ensures.lines)) (c.in-Ok.ensures.asks (g.D.BlockDev.state c.args.dev.now));
       size = omega (arith, c.sectors-have.ensures, c.if-have-lt-SECTORS.false);

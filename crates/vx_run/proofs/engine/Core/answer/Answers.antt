@@ -20,16 +20,16 @@ returns-clause-core g c =
     let e1 : Event = event.Do c.ops-at.result 0 c.args.line c.args.call c.replies-reply.result.0 in
     let e2 : Event = event.Ret c.ops-at-2.result (length h) c.durable-answer.result in
     let items : c.push_reserved-2.new.self.items ≡ (h ++ e1 ∷ []) ++ e2 ∷ [] =
-      c.push_reserved-2.ensures.items
-      ∙ ap (λ (k : ℕ). c.durable-answer.new.self.history.items ++ event.Ret c.ops-at-2.result k c.durable-answer.result ∷ []) place
-      ∙ ap (λ (v : Vec Event _). v.items ++ e2 ∷ []) c.durable-answer.ensures.history
-      ∙ ap (λ (es : List Event). es ++ e2 ∷ []) c.push_reserved.ensures.items in
+    c.push_reserved-2.ensures.items
+    ∙ ap (λ (k : ℕ). c.durable-answer.new.self.history.items ++ event.Ret c.ops-at-2.result k c.durable-answer.result ∷ []) place
+    ∙ ap (λ (v : Vec Event _). v.items ++ e2 ∷ []) c.durable-answer.ensures.history
+    ∙ ap (λ (es : List Event). es ++ e2 ∷ []) c.push_reserved.ensures.items in
     let reply : IsReply (state_of c.args.self.now.metadata) c.args.call c.replies-reply.result.0 (state_of c.durable-answer.new.self.metadata) =
-      subst (λ (m : State). IsReply (state_of c.args.self.now.metadata) c.args.call c.replies-reply.result.0 m) (sym (ap state_of c.durable-answer.ensures.metadata)) c.replies-reply.ensures.reply in
+    subst (λ (m : State). IsReply (state_of c.args.self.now.metadata) c.args.call c.replies-reply.result.0 m) (sym (ap state_of c.durable-answer.ensures.metadata)) c.replies-reply.ensures.reply in
     let run = run_answered c.args.self.now.opened h c.push_reserved-2.new.self.items (state_of c.args.self.now.metadata) (state_of c.durable-answer.new.self.metadata) c.args.call c.args.line
-      c.ops-at.result c.ops-at-2.result (g.D.BlockDev.state c.args.dev.now).count (g.D.BlockDev.state c.durable-answer.new.dev).count c.replies-reply.result.0 c.durable-answer.result
-      c.requires.core.run (omega (arith, c.ops-at.ensures.number)) (omega (arith, c.ops-at.ensures.number, c.ops-at-2.ensures.number, c.durable-answer.ensures.onward.later)) (omega (arith, c.ops-at-2.ensures.number)) reply
-      (copied c.durable-answer.result c.replies-reply.result.1 c.replies-reply.result.0 c.replies-reply.ensures.copy c.durable-answer.ensures.answer) items in
+    c.ops-at.result c.ops-at-2.result (g.D.BlockDev.state c.args.dev.now).count (g.D.BlockDev.state c.durable-answer.new.dev).count c.replies-reply.result.0 c.durable-answer.result
+    c.requires.core.run (omega (arith, c.ops-at.ensures.number)) (omega (arith, c.ops-at.ensures.number, c.ops-at-2.ensures.number, c.durable-answer.ensures.onward.later)) (omega (arith, c.ops-at-2.ensures.number)) reply
+    (copied c.durable-answer.result c.replies-reply.result.1 c.replies-reply.result.0 c.replies-reply.ensures.copy c.durable-answer.ensures.answer) items in
     record {
       run = subst (λ (o : ℕ). IsRun o c.push_reserved-2.new.self.items (state_of c.durable-answer.new.self.metadata) (g.D.BlockDev.state c.durable-answer.new.dev).count) (sym c.durable-answer.ensures.opened) run;
       size = omega (arith, c.requires.core.size, c.durable-answer.ensures.onward.size);

@@ -14,10 +14,16 @@ loop-call-preserved g c =
       core = a.core;
       all = append_assoc c.loop-call.yielded (c.in-Some.call ∷ []) (into_iter_items c.next.new.self) ∙ ap (λ (t : List Call). c.loop-call.yielded ++ t) (sym next) ∙ inv.all;
       lines = lines_answered c.loop-call.self.history.items c.answer.new.self.history.items c.in-Some.call (c.loop-call.line + 1) a.answered.at a.answered.later (length c.loop-call.self.history.items) a.answered.reply a.answered.answer (omega arith) a.answered.is
-        ∙ ap (λ (calls : List Call). calls ++ c.in-Some.call ∷ []) inv.lines;
+          ∙ ap (λ (calls : List Call). calls ++ c.in-Some.call ∷ []) inv.lines;
       number = omega (arith, inv.number, length-append c.loop-call.yielded (c.in-Some.call ∷ []));
-      events = omega (arith, inv.events, length-append c.loop-call.yielded (c.in-Some.call ∷ []), c.answer.new.self.history.ok.0, c.loop-call.self.history.ok.0,
-        length_answered c.loop-call.self.history.items c.answer.new.self.history.items c.in-Some.call (c.loop-call.line + 1) a.answered.at a.answered.later (length c.loop-call.self.history.items) a.answered.reply a.answered.answer a.answered.is);
+      events = omega (
+        arith,
+        inv.events,
+        length-append c.loop-call.yielded (c.in-Some.call ∷ []),
+        c.answer.new.self.history.ok.0,
+        c.loop-call.self.history.ok.0,
+        length_answered c.loop-call.self.history.items c.answer.new.self.history.items c.in-Some.call (c.loop-call.line + 1) a.answered.at a.answered.later (length c.loop-call.self.history.items) a.answered.reply a.answered.answer a.answered.is,
+      );
       room = omega (arith, inv.room, a.capacity);
       opened = a.opened ∙ inv.opened;
       faults = λ before h. a.faults before (inv.faults before h);

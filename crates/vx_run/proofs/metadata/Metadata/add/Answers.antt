@@ -26,4 +26,4 @@ pub invariant_of-self-in-Ok-clause-short : goal.invariant_of-self-in-Ok-clause-s
 invariant_of-self-in-Ok-clause-short c =
     let E : List DirEntry → Type 0 = λ es. All (λ e. length e.name < 256) es in
     subst E (sym c.in_ok-push.ensures.items) (All-push (λ (e : DirEntry). length e.name < 256) c.args.self.now.entries.items (record { ino = c.new.result; name = c.in_ok-clone.field-0 }) c.args.self.now.short
-      (omega (arith, ap (λ (n : List ℕ). length n) c.in_ok-clone.ensures.cases, c.requires.short)))
+    (omega (arith, ap (λ (n : List ℕ). length n) c.in_ok-clone.ensures.cases, c.requires.short)))

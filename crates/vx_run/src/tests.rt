@@ -1,0 +1,199 @@
+//! Whole runs over devices in memory.
+use crate::{OpenGate, Ran, run};
+use std::alloc::{AllocError, Global};
+use std::sync::Wait;
+use std::test::Fail;
+use std::thread::Threads;
+use vx_base::{Bytes, MemSink, MemSource, NumList};
+use vx_dev::{BlockDev, Image, MemDisk, Operation};
+
+const SECTORS: u64 = 9_220;
+
+const ROOM: u64 = 200;
+
+const EXAMPLE: &[u8] = b"sessions 1\n0 create /a 644\n0 list /\n0 create /a 600\n";
+
+/// What a test looks at.
+#[derive(Drop)]
+struct Seen {
+    status: u8,
+    ops: u64,
+    dev: MemDisk,
+    out: MemSink,
+}
+
+fn words(alloc: Global) -> Result<Vec<String>, AllocError> {
+    let mut words = Vec::new(alloc);
+    for word in ["fresh", "disk.img", "-o", "log"] {
+        words.push(String::from_str(alloc, word)?)?;
+    }
+    Ok(words)
+}
+
+/// A run with failing writes of the device, a room of the sink, and failing reads of the source.
+fn run_script<R: Threads + Wait + Sync>(
+    rt: &R,
+    alloc: Global,
+    script: &[u8],
+    sectors: u64,
+    fail_writes: &[u64],
+    room: u32,
+    fail_reads: &[u64],
+) -> Result<Seen, Fail> {
+    let fail_writes = NumList::from_slice(alloc, fail_writes)?;
+    let dev = MemDisk::new(
+        alloc,
+        Image::zeroed(alloc, sectors)?,
+        ROOM,
+        fail_writes,
+        NumList::new(alloc),
+    )?;
+    let mut source = MemSource::new(
+        Bytes::from_slice(alloc, script)?,
+        NumList::from_slice(alloc, fail_reads)?,
+    );
+    let mut out = MemSink::new(alloc, room, NumList::new(alloc))?;
+    let words = words(alloc)?;
+    let Ran {
+        status,
+        dev,
+        history: _,
+    } = run(rt, alloc, &words, dev, &mut source, &mut out, &OpenGate);
+    let ops = dev.ops();
+    Ok(Seen {
+        status,
+        ops,
+        dev,
+        out,
+    })
+}
+
+/// Whether this operation wrote bytes that begin so.
+fn begins(dev: &MemDisk, at: usize, s: u64, front: &[u8]) -> bool {
+    match dev.operations().get(at) {
+        Some(Operation::Put(sector, bytes)) => *sector == s && bytes.starts_with(front),
+        _ => false,
+    }
+}
+
+#[test]
+fn example(rt: HostRuntime) -> Result<(), Fail> {
+    let seen = run_script(&rt, rt.alloc(), EXAMPLE, SECTORS, &[], 4096, &[])?;
+    assert_eq!(rt; seen.status, 0);
+    assert_eq!(rt;
+        seen.out.as_slice(),
+        b"0 1 ok 3\n0 2 ok 1 a\n0 3 no 2 Exist\ndone calls=3 moves=0 from=0 to=0\n".as_slice()
+    );
+    assert_eq!(rt; seen.ops, 87);
+    let descriptor = [
+        0x56, 0x58, 0x52, 0x43, 4, 0, 0, 0, 0, 0, 0, 0, 0, 0, 0, 0, 4, 4, 0, 0, 7, 4, 0, 0, 0x46,
+        4, 0, 0, 0x47, 4, 0, 0,
+    ];
+    assert!(rt; begins(&seen.dev, 70, 4, &descriptor));
+    assert!(rt; begins(&seen.dev, 71, 5, &[0xff, 0xff, 0xff, 0xff, 3]));
+    assert!(rt;
+        begins(
+            &seen.dev,
+            76,
+            2,
+            &[
+                0x56, 0x58, 0x4c, 0x4f, 0x47, 0x48, 0x44, 0x31, 2, 0, 0, 0, 0, 0, 0, 0, 0, 0, 0, 0,
+                0, 0, 0, 0, 5
+            ]
+        )
+    );
+    assert!(rt; begins(&seen.dev, 78, 1028, &[0xff, 0xff, 0xff, 0xff, 3]));
+    assert_eq!(rt; seen.dev.image().as_slice().len(), 9220);
+    Ok(())
+}
+
+#[test]
+fn no_lines(rt: HostRuntime) -> Result<(), Fail> {
+    let seen = run_script(&rt, rt.alloc(), b"sessions 1\n", SECTORS, &[], 4096, &[])?;
+    assert_eq!(rt; seen.status, 0);
+    assert_eq!(rt; seen.ops, 72);
+    assert_eq!(rt;
+        seen.out.as_slice(),
+        b"done calls=0 moves=0 from=0 to=0\n".as_slice()
+    );
+    Ok(())
+}
+
+#[test]
+fn a_fourth_long_name(rt: HostRuntime) -> Result<(), Fail> {
+    let mut script = Bytes::from_slice(rt.alloc(), b"sessions 1\n")?;
+    for first in b"abcd" {
+        for byte in b"0 create /" {
+            script.push(*byte)?;
+        }
+        for _ in 0..255u8 {
+            script.push(*first)?;
+        }
+        for byte in b" 644\n" {
+            script.push(*byte)?;
+        }
+    }
+    let seen = run_script(&rt, rt.alloc(), script.as_slice(), SECTORS, &[], 4096, &[])?;
+    assert_eq!(rt;
+        seen.out.as_slice(),
+        b"0 1 ok 3\n0 2 ok 4\n0 3 ok 5\n0 4 no 10 TooBig 2048\ndone calls=4 moves=0 from=0 to=0\n".as_slice()
+    );
+    Ok(())
+}
+
+#[test]
+fn a_failed_write_disables(rt: HostRuntime) -> Result<(), Fail> {
+    let seen = run_script(
+        &rt,
+        rt.alloc(),
+        b"sessions 1\n0 create /a 644\n0 list /\n",
+        SECTORS,
+        &[77],
+        4096,
+        &[],
+    )?;
+    assert_eq!(rt; seen.status, 4);
+    assert_eq!(rt;
+        seen.out.as_slice(),
+        b"0 1 no 20 WriteFault\n0 2 no 21 Disabled 1\ndisabled calls=2 moves=0 from=0 to=0\n".as_slice()
+    );
+    assert_eq!(rt; seen.ops, 77);
+    Ok(())
+}
+
+#[test]
+fn refusals(rt: HostRuntime) -> Result<(), Fail> {
+    let small = run_script(&rt, rt.alloc(), EXAMPLE, SECTORS - 1, &[], 4096, &[])?;
+    assert_eq!(rt; (small.status, small.ops), (2, 0));
+    assert_eq!(rt;
+        small.out.as_slice(),
+        b"refused 2 DeviceTooSmall 9219 9220\n".as_slice()
+    );
+    let bad = run_script(
+        &rt,
+        rt.alloc(),
+        b"sessions 1\n0 frob\n",
+        SECTORS,
+        &[],
+        4096,
+        &[],
+    )?;
+    assert_eq!(rt; (bad.status, bad.ops), (3, 0));
+    assert_eq!(rt; bad.out.as_slice(), b"refused 3 BadLine 2\n".as_slice());
+    let unread = run_script(&rt, rt.alloc(), EXAMPLE, SECTORS, &[], 4096, &[2])?;
+    assert_eq!(rt; (unread.status, unread.ops), (7, 0));
+    assert_eq!(rt;
+        unread.out.as_slice(),
+        b"refused 7 ScriptFault\n".as_slice()
+    );
+    let unformatted = run_script(&rt, rt.alloc(), EXAMPLE, SECTORS, &[70], 4096, &[])?;
+    assert_eq!(rt; (unformatted.status, unformatted.ops), (4, 69));
+    assert_eq!(rt;
+        unformatted.out.as_slice(),
+        b"refused 4 WriteFault\n".as_slice()
+    );
+    let full = run_script(&rt, rt.alloc(), EXAMPLE, SECTORS, &[], 4, &[])?;
+    assert_eq!(rt; full.status, 5);
+    assert_eq!(rt; full.out.as_slice(), b"0 1 ".as_slice());
+    Ok(())
+}
