@@ -1,6 +1,6 @@
 -- A run's output, and what is known of it.
-use Rattle.std.proofs.Common.{◌≡◌, ℕ, Bool, true, false, List, Option, Some, None, Result, Ok, Err, refl, sym, ◌∙◌, subst, rules}
-use Rattle.std.specs.Prelude.{OnOk, OnErr, is_ok, is_some, IsSome}
+use Rattle.std.proofs.Common.{◌≡◌, ℕ, Bool, true, false, not, List, Option, Some, None, Result, Ok, Err, refl, sym, ◌∙◌, subst, rules}
+use Rattle.std.specs.Prelude.{OnOk, OnErr, is_ok, is_none, is_some, IsSome}
 use Rattle.std.specs.Io.KnownBytes.{Appends}
 use Rattle.vx_base.specs.Faults.{HasCause}
 use Rattle.vx_script.specs.Puts.{AppendsPrefix}
@@ -14,6 +14,10 @@ takes_of t text (Err e) ok err cause = (err, cause.failed)
 pub none_of : (o : Option ℕ) (b : Bool) → b ≡ is_some o → b ≡ false → o ≡ None
 none_of None b e no_fault = refl
 none_of (Some x) b e no_fault = absurd (let wrong : true ≡ false = sym e ∙ no_fault in cc)
+
+pub none_or_some : (o : Option ℕ) → is_none o ≡ not (is_some o)
+none_or_some None = refl
+none_or_some (Some x) = refl
 
 pub some_of : (o : Option ℕ) (b : Bool) → b ≡ is_some o → b ≡ true → IsSome o
 some_of None b e fault = absurd (let wrong : false ≡ true = sym e ∙ fault in cc)

@@ -13,11 +13,11 @@ use Rattle.vx_base.specs.declared.event.Event.TheVariants as event
 use Rattle.vx_base.proofs.Maps.{at_key, taken_back}
 use Rattle.vx_model.specs.State.{State}
 use Rattle.vx_model.specs.Step.{step}
-use Rattle.vx_model.specs.Legal.{World, Waiting, after, after_all, Legal, Allowed, IfThere, is_fault, is_idle, state_after, RetAllowed, line_of}
+use Rattle.vx_model.specs.Legal.{World, Waiting, after, after_all, Legal, Allowed, IfThere, is_fault, is_idle, state_after, RetAllowed}
 use Rattle.vx_model.proofs.Runs.{after_all-append, Legal-push}
 use Rattle.vx_dev.specs.Tape as dev
 use Rattle.vx_run.specs.Devices.{Onward}
-use Rattle.vx_run.specs.Cores.{IsRun, IsReply, IsEnded, IsUnmounted, beginning}
+use Rattle.vx_run.specs.Cores.{IsRun, IsReply, IsEnded, is_unmounted, IsOfLines, asked_of, numbered, beginning}
 
 abbrev Waits : Type 0
 Waits = map.FinMap nat_cmp Waiting
@@ -105,18 +105,21 @@ run_answered opened h new s s2 call line at later count count2 reply answer run 
       mounted = facts.4;
     })
 
-one_line : (at line : ℕ) (call : Call) (reply : Reply) → 0 < line → filter_map (line_of 0) (begun at line call reply ∷ []) ≡ call ∷ []
-one_line at line call reply some = let test : nat_lt 0 line ≡ true = grind (arith, nat_tests) in rw test refl
+numbered-push : (n : ℕ) (calls : List Call) (call : Call) → numbered n (calls ++ call ∷ []) ≡ numbered n calls ++ (0, (n + length calls, call)) ∷ []
+numbered-push n [] call = ap (λ (k : ℕ). (0, (k, call)) ∷ []) (omega arith)
+numbered-push n (c ∷ calls) call = ap (λ (rest : List (ℕ × (ℕ × Call))). (0, (n, c)) ∷ rest) (numbered-push (n + 1) calls call ∙ ap (λ (k : ℕ). numbered (n + 1) calls ++ (0, (k, call)) ∷ []) (omega arith))
 
 -- a line's call is one line more
-pub lines_answered : (h new : List Event) (call : Call) (line at later place : ℕ) (reply answer : Reply) → 0 < line
-    → new ≡ (h ++ begun at line call reply ∷ []) ++ event.Ret later place answer ∷ [] → filter_map (line_of 0) new ≡ filter_map (line_of 0) h ++ call ∷ []
-lines_answered h new call line at later place reply answer some are =
+pub lines_answered : (h new : List Event) (calls : List Call) (call : Call) (line at later place : ℕ) (reply answer : Reply) → line ≡ length calls + 1 → IsOfLines h calls
+    → new ≡ (h ++ begun at line call reply ∷ []) ++ event.Ret later place answer ∷ [] → IsOfLines new (calls ++ call ∷ [])
+lines_answered h new calls call line at later place reply answer number before are =
     let e1 = begun at line call reply in
     let e2 : Event = event.Ret later place answer in
-    ap (filter_map (line_of 0)) are ∙ filter_map-append (line_of 0) (h ++ e1 ∷ []) (e2 ∷ []) ∙ append-nil (filter_map (line_of 0) (h ++ e1 ∷ []))
-    ∙ filter_map-append (line_of 0) h (e1 ∷ [])
-    ∙ ap (λ (calls : List Call). filter_map (line_of 0) h ++ calls) (one_line at line call reply some)
+    ap (filter_map asked_of) are ∙ filter_map-append asked_of (h ++ e1 ∷ []) (e2 ∷ []) ∙ append-nil (filter_map asked_of (h ++ e1 ∷ []))
+    ∙ filter_map-append asked_of h (e1 ∷ [])
+    ∙ ap (λ (front : List (ℕ × (ℕ × Call))). front ++ (0, (line, call)) ∷ []) before
+    ∙ ap (λ (k : ℕ). numbered 1 calls ++ (0, (k, call)) ∷ []) (number ∙ omega arith)
+    ∙ sym (numbered-push 1 calls call)
 
 -- the file system is left clean behind the last call
 module _ (opened : ℕ) (h new : List Event) (s : State) (at count : ℕ) (run : IsRun opened h s count) (low : count ≤ at) (are : new ≡ h ++ event.Unmounted at ∷ []) where
@@ -130,11 +133,11 @@ module _ (opened : ℕ) (h new : List Event) (s : State) (at count : ℕ) (run :
     answered = ap (λ (x : World). x.waiting) last_world ∙ run.idle;
   }
 
-  pub is_unmounted : IsUnmounted opened new
-  is_unmounted = ap (λ (x : World). x.unmounted) last_world
+  pub left_clean : is_unmounted opened new ≡ true
+  left_clean = ap (λ (x : World). x.unmounted) last_world
 
-  pub lines_unmounted : filter_map (line_of 0) new ≡ filter_map (line_of 0) h
-  lines_unmounted = ap (filter_map (line_of 0)) are ∙ filter_map-append (line_of 0) h (event.Unmounted at ∷ []) ∙ append-nil (filter_map (line_of 0) h)
+  pub lines_unmounted : filter_map asked_of new ≡ filter_map asked_of h
+  lines_unmounted = ap (filter_map asked_of) are ∙ filter_map-append asked_of h (event.Unmounted at ∷ []) ∙ append-nil (filter_map asked_of h)
 
 pub length_answered : (h new : List Event) (call : Call) (line at later place : ℕ) (reply answer : Reply)
     → new ≡ (h ++ begun at line call reply ∷ []) ++ event.Ret later place answer ∷ [] → length new ≡ length h + 2

@@ -1,5 +1,5 @@
 -- A mount between two calls.
-use Rattle.std.specs.Prelude.{◌≡◌, ◌⊎◌, ◌≤◌, ◌*◌, ◌+◌, ℕ, Bool, true, false, List, [], ◌∷◌, ◌++◌, length, Option, None, IsSome}
+use Rattle.std.specs.Prelude.{◌≡◌, ◌⊎◌, ◌≤◌, ◌*◌, ◌+◌, ℕ, Bool, true, false, List, [], ◌∷◌, ◌++◌, length, Option, Some, None, IsSome, filter_map}
 use Rattle.std.specs.FinMap as map
 use Rattle.vx_base.specs.declared.call.Call.{Call}
 use Rattle.vx_base.specs.declared.reply.Reply.{Reply}
@@ -53,11 +53,25 @@ pub record TellsFaults (before now : ℕ) (disabled : Option ℕ) : Type 0 where
   pub none : disabled ≡ None → now ≡ before
   pub some : IsSome disabled → Rose before now
 
+-- the session, the line and the call of a Do
+abbrev pub asked_of : Event → Option (ℕ × (ℕ × Call))
+asked_of (event.Do at session line call reply) = Some (session, (line, call))
+asked_of _ = None
+
+-- the calls of session 0, with their line numbers from n on
+abbrev pub numbered : ℕ → List Call → List (ℕ × (ℕ × Call))
+numbered n [] = []
+numbered n (call ∷ calls) = (0, (n, call)) ∷ numbered (n + 1) calls
+
+-- every Do of the history is one of these calls, in their order, with its line number
+abbrev pub IsOfLines : List Event → List Call → Type 0
+IsOfLines history calls = filter_map asked_of history ≡ numbered 1 calls
+
 -- a history that goes no further: it is legal, and every call in it is answered
 pub record IsEnded (opened : ℕ) (history : List Event) : Type 0 where
   pub legal : Legal (beginning opened) history
   pub answered : (after_all (beginning opened) history).waiting ≡ map.empty
 
--- the file system was left clean
-abbrev pub IsUnmounted : ℕ → List Event → Type 0
-IsUnmounted opened history = (after_all (beginning opened) history).unmounted ≡ true
+-- whether the file system was left clean
+abbrev pub is_unmounted : ℕ → List Event → Bool
+is_unmounted opened history = (after_all (beginning opened) history).unmounted

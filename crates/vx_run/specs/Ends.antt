@@ -1,11 +1,10 @@
 -- How a run ends, and why.
-use Rattle.std.specs.Prelude.{◌≡◌, ◌⊎◌, ◌<◌, ◌≤◌, ◌+◌, ℕ, Bool, true, false, List, [], Option, Result, Ok, Err, IfSome, filter_map, if◌then◌else◌}
+use Rattle.std.specs.Prelude.{◌≡◌, ◌⊎◌, ◌<◌, ◌≤◌, ◌+◌, ℕ, Bool, true, false, List, [], Option, Result, Ok, Err, IfSome, not, if◌then◌else◌}
 use Rattle.std.specs.Io.KnownBytes.{Appends}
 use Rattle.vx_base.specs.declared.call.Call.{Call}
 use Rattle.vx_base.specs.declared.event.Event.{Event}
 use Rattle.vx_base.specs.Faults.{Rose}
 use Rattle.vx_dev.specs.Tape as dev
-use Rattle.vx_model.specs.Legal.{line_of}
 use Rattle.vx_script.specs.declared.start.StartRefusal.{StartRefusal}
 use Rattle.vx_script.specs.declared.start.StartRefusal.TheVariants as start
 use Rattle.vx_script.specs.declared.script.ScriptRefusal.{ScriptRefusal}
@@ -15,7 +14,7 @@ use Rattle.vx_script.specs.Start.{status_of, refused_text}
 use Rattle.vx_script.specs.Output.{output_of}
 use Rattle.vx_script.specs.Puts.{AppendsPrefix}
 use Rattle.vx_run.specs.Words.{are_words}
-use Rattle.vx_run.specs.Cores.{IsEnded, IsUnmounted}
+use Rattle.vx_run.specs.Cores.{IsEnded, is_unmounted, IsOfLines}
 
 -- what a run is given: its words, its script where the source tells it, its device, and the source's faults so far
 pub record Setting : Type 0 where
@@ -72,12 +71,15 @@ pub record IsUnformatted (s : Setting) (d : dev.State) : Type 0 where
   pub rose : Rose s.device.write_faults d.write_faults
   pub fewer : d.count < s.device.count + format_ops
 
--- A run that was begun: its history is legal from a new file system on, has the script's lines in order, and answers each.
+-- A run that was begun: its history is legal from a new file system on, its calls are the script's lines in order, all of them,
+-- and each is answered; it ends unmounted exactly where no write failed.
 pub record IsFinished (s : Setting) (d : dev.State) (disabled : Bool) (history : List Event) : Type 0 where
-  pub asks : Asks s (filter_map (line_of 0) history)
+  pub calls : List Call
+  pub asks : Asks s calls
+  pub lines : IsOfLines history calls
   pub size : sectors_needed ≤ s.device.size
   pub ended : IsEnded s.device.count history
-  pub unmounted : disabled ≡ false → IsUnmounted s.device.count history
+  pub unmounted : is_unmounted s.device.count history ≡ not disabled
   pub fine : disabled ≡ false → d.write_faults ≡ s.device.write_faults
   pub rose : disabled ≡ true → Rose s.device.write_faults d.write_faults
   pub formatted : s.device.count + format_ops ≤ d.count

@@ -1,9 +1,10 @@
 //! A mount: it answers one call after another, and keeps the history.
-ghost use Rattle.std.specs.Prelude.{◌≡◌, ◌⊎◌, ◌<◌, ◌≤◌, ◌+◌, ◌*◌, ◌^◌, ◌++◌, ◌∷◌, [], ℕ, true, None, Some, OnOk, OnErr, IfOk, IfSome, length, vec_len, vec_capacity, filter_map, All};
+ghost use Rattle.std.specs.Prelude.{◌≡◌, ◌⊎◌, ◌<◌, ◌≤◌, ◌+◌, ◌*◌, ◌^◌, ◌++◌, ◌∷◌, [], ℕ, true, None, Some, OnOk, OnErr, IfOk, IfSome, length, vec_len, vec_capacity, is_none, List, All};
 ghost use Rattle.vx_base.specs.Faults.{HasCause};
 ghost use Rattle.vx_base.specs.declared.event.Event.TheVariants as event;
+ghost use Rattle.vx_base.specs.declared.call.Call.{Call};
 ghost use Rattle.vx_model.specs.Step.{has_step};
-ghost use Rattle.vx_model.specs.Legal.{is_fault, line_of};
+ghost use Rattle.vx_model.specs.Legal.{is_fault};
 ghost use Rattle.vx_run.specs.Cores.{IsReply};
 ghost use Rattle.vx_run.specs.Metadata.{state_of};
 ghost use Rattle.vx_run.specs.Devices.{Onward};
@@ -29,7 +30,7 @@ pub struct Core {
 }
 
 impl Core {
-    ghost use Rattle.vx_run.specs.Cores.{IsCore, IsAnswered, IsRun, IsEnded, IsUnmounted, TellsFaults};
+    ghost use Rattle.vx_run.specs.Cores.{IsCore, IsAnswered, IsRun, IsEnded, is_unmounted, IsOfLines, TellsFaults};
     ghost use Rattle.vx_run.specs.Journals.{IsAtRest};
 
     /// A mount of a new file system. It takes all memory for the history of so many lines.
@@ -93,7 +94,7 @@ impl Core {
         requires room { 2 * length calls.items + 1 ≤ vec_capacity self.old.history }
         requires few { length calls.items ≤ 65535 }
         ensures core { IsCore (D.state dev.new) self.new }
-        ensures lines { filter_map (line_of 0) self.new.history.items ≡ calls.items }
+        ensures lines { IsOfLines self.new.history.items calls.items }
         ensures room { vec_len self.new.history + 1 ≤ vec_capacity self.new.history }
         ensures short { vec_len self.new.history ≤ 131070 }
         ensures opened { self.new.opened ≡ self.old.opened }
@@ -112,8 +113,8 @@ impl Core {
         requires core { IsCore (D.state dev.old) self.old }
         requires room { vec_len self.old.history < vec_capacity self.old.history }
         ensures ended { IsEnded self.new.opened self.new.history.items }
-        ensures unmounted { self.new.disabled ≡ None → IsUnmounted self.new.opened self.new.history.items }
-        ensures lines { filter_map (line_of 0) self.new.history.items ≡ filter_map (line_of 0) self.old.history.items }
+        ensures unmounted { is_unmounted self.new.opened self.new.history.items ≡ is_none self.new.disabled }
+        ensures lines { (calls : List Call) → IsOfLines self.old.history.items calls → IsOfLines self.new.history.items calls }
         ensures short { vec_len self.new.history ≤ vec_len self.old.history + 1 }
         ensures opened { self.new.opened ≡ self.old.opened }
         ensures faults { (before : ℕ) → TellsFaults before (D.state dev.old).write_faults self.old.disabled → TellsFaults before (D.state dev.new).write_faults self.new.disabled }

@@ -1,9 +1,9 @@
-use Rattle.std.proofs.Common.{◌≡◌, ℕ, List, map, sym, ◌∙◌, subst, refl, arith}
+use Rattle.std.proofs.Common.{◌≡◌, ℕ, List, map, sym, ◌∙◌, subst, ap, not, refl, arith}
 use Rattle.std.specs.String.{string_bytes}
 use Rattle.vx_base.specs.declared.call.Call.{Call}
-use Rattle.vx_run.specs.Cores.{IsEnded, IsUnmounted, TellsFaults}
+use Rattle.vx_run.specs.Cores.{IsEnded, is_unmounted, TellsFaults}
 use Rattle.vx_run.specs.Ends.{Setting, Asks}
-use Rattle.vx_run.proofs.Ending.{none_of, some_of, enabled_tells}
+use Rattle.vx_run.proofs.Ending.{none_of, some_of, none_or_some, enabled_tells}
 use Rattle.vx_run.proofs.Scripts.{ended_unasked, all_built}
 use Rattle.vx_run.proofs.top.worked.Goals as goal
 
@@ -54,10 +54,12 @@ returns-clause-ended g c =
     let tells : TellsFaults before (g.D.BlockDev.state c.unmount.new.dev).write_faults c.unmount.new.self.disabled =
     c.unmount.ensures.faults before (c.answer_all.ensures.faults before (enabled_tells before _ _ c.in-Ok-fresh.ensures.enabled c.in-Ok-format.ensures.cause.fine)) in
     record {
-      asks = subst (λ (calls : List Call). Asks s calls) (sym (c.unmount.ensures.lines ∙ c.answer_all.ensures.lines)) (c.in-Ok.ensures.asks (g.D.BlockDev.state c.args.dev.now));
+      calls = c.in-Ok.calls.items;
+      asks = c.in-Ok.ensures.asks (g.D.BlockDev.state c.args.dev.now);
+      lines = c.unmount.ensures.lines c.in-Ok.calls.items c.answer_all.ensures.lines;
       size = omega (arith, c.sectors-have.ensures, c.if-have-lt-SECTORS.false);
       ended = subst (λ (o : ℕ). IsEnded o history) opened c.unmount.ensures.ended;
-      unmounted = λ off. subst (λ (o : ℕ). IsUnmounted o history) opened (c.unmount.ensures.unmounted (none_of c.unmount.new.self.disabled c.is_some.result c.is_some.ensures off));
+      unmounted = ap (λ (o : ℕ). is_unmounted o history) (sym opened) ∙ c.unmount.ensures.unmounted ∙ none_or_some c.unmount.new.self.disabled ∙ ap not (sym c.is_some.ensures);
       fine = λ off. tells.none (none_of c.unmount.new.self.disabled c.is_some.result c.is_some.ensures off);
       rose = λ on. tells.some (some_of c.unmount.new.self.disabled c.is_some.result c.is_some.ensures on);
       formatted = omega (arith, c.in-Ok-format.ensures.count, c.answer_all.ensures.onward.later, c.unmount.ensures.onward.later);

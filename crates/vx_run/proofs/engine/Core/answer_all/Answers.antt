@@ -13,8 +13,8 @@ loop-call-preserved g c =
     record {
       core = a.core;
       all = append_assoc c.loop-call.yielded (c.in-Some.call ∷ []) (into_iter_items c.next.new.self) ∙ ap (λ (t : List Call). c.loop-call.yielded ++ t) (sym next) ∙ inv.all;
-      lines = lines_answered c.loop-call.self.history.items c.answer.new.self.history.items c.in-Some.call (c.loop-call.line + 1) a.answered.at a.answered.later (length c.loop-call.self.history.items) a.answered.reply a.answered.answer (omega arith) a.answered.is
-          ∙ ap (λ (calls : List Call). calls ++ c.in-Some.call ∷ []) inv.lines;
+      lines = lines_answered c.loop-call.self.history.items c.answer.new.self.history.items c.loop-call.yielded c.in-Some.call (c.loop-call.line + 1) a.answered.at a.answered.later
+        (length c.loop-call.self.history.items) a.answered.reply a.answered.answer (omega (arith, inv.number)) inv.lines a.answered.is;
       number = omega (arith, inv.number, length-append c.loop-call.yielded (c.in-Some.call ∷ []));
       events = omega (
         arith,

@@ -1,9 +1,7 @@
-use Rattle.std.proofs.Common.{◌≡◌, ◌++◌, ◌*◌, ◌+◌, ◌≤◌, ℕ, length, vec_len, true}
-use Rattle.std.specs.Prelude.{filter_map, All, vec_capacity}
+use Rattle.std.proofs.Common.{◌≡◌, ◌++◌, ◌*◌, ◌+◌, ◌≤◌, ℕ, length, vec_len}
+use Rattle.std.specs.Prelude.{vec_capacity}
 use Rattle.std.specs.Vec.Iter.{into_iter_items}
-use Rattle.vx_model.specs.Step.{has_step}
-use Rattle.vx_model.specs.Legal.{line_of}
-use Rattle.vx_run.specs.Cores.{IsCore, TellsFaults}
+use Rattle.vx_run.specs.Cores.{IsCore, IsOfLines, TellsFaults}
 use Rattle.vx_run.specs.Devices.{Onward}
 use Rattle.vx_run.proofs.engine.Core.answer_all.Given as goal
 
@@ -11,7 +9,7 @@ abbrev pub invariant-loop-call : goal.invariant-loop-call
 invariant-loop-call g l = record {
   core : IsCore (g.D.BlockDev.state l.dev) l.self;
   all : l.yielded ++ into_iter_items l.call-iterator ≡ l.fn.calls.items;
-  lines : filter_map (line_of 0) l.self.history.items ≡ l.yielded;
+  lines : IsOfLines l.self.history.items l.yielded;
   number : l.line ≡ length l.yielded;
   events : vec_len l.self.history ≡ 2 * length l.yielded;
   room : 2 * length l.fn.calls.items + 1 ≤ vec_capacity l.self.history;
