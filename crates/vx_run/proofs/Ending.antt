@@ -23,7 +23,7 @@ pub some_of : (o : Option ℕ) (b : Bool) → b ≡ is_some o → b ≡ true →
 some_of None b e fault = absurd (let wrong : false ≡ true = sym e ∙ fault in cc)
 some_of (Some x) b e fault = search rules
 
-none_is_not : (o : Option ℕ) → o ≡ None → IsSome o → ⊥
+pub none_is_not : (o : Option ℕ) → o ≡ None → IsSome o → ⊥
 none_is_not None e h = search (rules, h)
 none_is_not (Some x) e h = cc
 

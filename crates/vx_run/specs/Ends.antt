@@ -1,5 +1,5 @@
 -- How a run ends, and why.
-use Rattle.std.specs.Prelude.{◌≡◌, ◌⊎◌, ◌<◌, ◌≤◌, ◌+◌, ℕ, Bool, true, false, List, [], Option, Result, Ok, Err, IfSome, not, if◌then◌else◌}
+use Rattle.std.specs.Prelude.{◌≡◌, ◌⊎◌, ◌<◌, ◌≤◌, ◌+◌, ℕ, Bool, true, false, List, [], Option, Result, Ok, Err, IfSome, is_some, All, not, if◌then◌else◌}
 use Rattle.std.specs.Io.KnownBytes.{Appends}
 use Rattle.vx_base.specs.declared.call.Call.{Call}
 use Rattle.vx_base.specs.declared.event.Event.{Event}
@@ -14,7 +14,7 @@ use Rattle.vx_script.specs.Start.{status_of, refused_text}
 use Rattle.vx_script.specs.Output.{output_of}
 use Rattle.vx_script.specs.Puts.{AppendsPrefix}
 use Rattle.vx_run.specs.Words.{are_words}
-use Rattle.vx_run.specs.Cores.{IsEnded, is_unmounted, IsOfLines}
+use Rattle.vx_run.specs.Cores.{IsEnded, is_unmounted, IsOfLines, AnswersWithReason}
 
 -- what a run is given: its words, its script where the source tells it, its device, and the source's faults so far
 pub record Setting : Type 0 where
@@ -80,6 +80,9 @@ pub record IsFinished (s : Setting) (d : dev.State) (disabled : Bool) (history :
   pub size : sectors_needed ≤ s.device.size
   pub ended : IsEnded s.device.count history
   pub unmounted : is_unmounted s.device.count history ≡ not disabled
+  pub count : Option ℕ
+  pub count_is : disabled ≡ is_some count
+  pub reasons : All (AnswersWithReason count) history
   pub fine : disabled ≡ false → d.write_faults ≡ s.device.write_faults
   pub rose : disabled ≡ true → Rose s.device.write_faults d.write_faults
   pub formatted : s.device.count + format_ops ≤ d.count

@@ -5,7 +5,7 @@ ghost use Rattle.vx_base.specs.declared.event.Event.TheVariants as event;
 ghost use Rattle.vx_base.specs.declared.call.Call.{Call};
 ghost use Rattle.vx_model.specs.Step.{has_step};
 ghost use Rattle.vx_model.specs.Legal.{is_fault};
-ghost use Rattle.vx_run.specs.Cores.{IsReply};
+ghost use Rattle.vx_run.specs.Cores.{IsReply, IsReasoned};
 ghost use Rattle.vx_run.specs.Metadata.{state_of};
 ghost use Rattle.vx_run.specs.Devices.{Onward};
 ghost use Rattle.vx_run.specs.Replies.{IsSound, IsSoundOrFault};
@@ -30,7 +30,7 @@ pub struct Core {
 }
 
 impl Core {
-    ghost use Rattle.vx_run.specs.Cores.{IsCore, IsAnswered, IsRun, IsEnded, is_unmounted, IsOfLines, TellsFaults};
+    ghost use Rattle.vx_run.specs.Cores.{IsCore, IsAnswered, IsRun, IsEnded, is_unmounted, IsOfLines, TellsFaults, AnswersWithReason, StaysDisabled};
     ghost use Rattle.vx_run.specs.Journals.{IsAtRest};
 
     /// A mount of a new file system. It takes all memory for the history of so many lines.
@@ -65,6 +65,7 @@ impl Core {
         requires short { vec_len self.old.history < 2 ^ 32 }
         ensures core { IsCore (D.state dev.new) self.new }
         ensures answered { IsAnswered line call self.old.history.items self.new.history.items }
+        ensures reasons { All (AnswersWithReason self.old.disabled) self.old.history.items → All (AnswersWithReason self.new.disabled) self.new.history.items }
         ensures capacity { vec_capacity self.old.history ≤ vec_capacity self.new.history }
         ensures opened { self.new.opened ≡ self.old.opened }
         ensures faults { (before : ℕ) → TellsFaults before (D.state dev.old).write_faults self.old.disabled → TellsFaults before (D.state dev.new).write_faults self.new.disabled }
@@ -95,6 +96,7 @@ impl Core {
         requires few { length calls.items ≤ 65535 }
         ensures core { IsCore (D.state dev.new) self.new }
         ensures lines { IsOfLines self.new.history.items calls.items }
+        ensures reasons { All (AnswersWithReason self.new.disabled) self.new.history.items }
         ensures room { vec_len self.new.history + 1 ≤ vec_capacity self.new.history }
         ensures short { vec_len self.new.history ≤ 131070 }
         ensures opened { self.new.opened ≡ self.old.opened }
@@ -114,6 +116,7 @@ impl Core {
         requires room { vec_len self.old.history < vec_capacity self.old.history }
         ensures ended { IsEnded self.new.opened self.new.history.items }
         ensures unmounted { is_unmounted self.new.opened self.new.history.items ≡ is_none self.new.disabled }
+        ensures reasons { All (AnswersWithReason self.old.disabled) self.old.history.items → All (AnswersWithReason self.new.disabled) self.new.history.items }
         ensures lines { (calls : List Call) → IsOfLines self.old.history.items calls → IsOfLines self.new.history.items calls }
         ensures short { vec_len self.new.history ≤ vec_len self.old.history + 1 }
         ensures opened { self.new.opened ≡ self.old.opened }
@@ -141,6 +144,8 @@ impl Core {
         ensures rest { self.new.disabled ≡ None → IsAtRest self.new.journal }
         ensures head { self.new.journal.log.head ≤ self.old.journal.log.head + 6 }
         ensures answer { (result ≡ answer) ⊎ (is_fault result ≡ true) }
+        ensures stays { StaysDisabled self.old.disabled self.new.disabled }
+        ensures reason { IsReasoned self.old.disabled answer → IsReasoned self.new.disabled result }
         ensures history { self.new.history ≡ self.old.history }
         ensures metadata { self.new.metadata ≡ self.old.metadata }
         ensures opened { self.new.opened ≡ self.old.opened }
@@ -182,6 +187,7 @@ fn replies(
     ensures copy { result.1 ≡ result.0 }
     ensures reply { IsReply (state_of metadata.old) call.now result.0 (state_of metadata.new) }
     ensures sound { IsSoundOrFault result.0 }
+    ensures reason { IsReasoned disabled result.0 }
 {
     if let Some(write_faults) = disabled {
         return twice(&Refusal::Disabled { write_faults });

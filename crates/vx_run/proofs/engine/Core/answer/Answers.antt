@@ -6,8 +6,8 @@ use Rattle.vx_base.specs.declared.reply.Reply.{Reply}
 use Rattle.vx_model.specs.State.{State}
 use Rattle.vx_model.specs.Legal.{is_fault}
 use Rattle.vx_run.specs.Metadata.{state_of}
-use Rattle.vx_run.specs.Cores.{IsRun, IsReply}
-use Rattle.vx_run.proofs.Histories.{run_answered}
+use Rattle.vx_run.specs.Cores.{IsRun, IsReply, IsReasoned}
+use Rattle.vx_run.proofs.Histories.{run_answered, reasons_answered}
 use Rattle.vx_run.proofs.engine.Core.answer.Goals as goal
 
 copied : (answer copy reply : Reply) → copy ≡ reply → (answer ≡ copy) ⊎ (is_fault answer ≡ true) → (answer ≡ reply) ⊎ (is_fault answer ≡ true)
@@ -36,3 +36,14 @@ returns-clause-core g c =
       rest = c.durable-answer.ensures.rest;
       head = omega (arith, c.requires.core.head, c.durable-answer.ensures.head, ap (λ (es : List Event). length es) items, length-append (h ++ e1 ∷ []) (e2 ∷ []), length-append h (e1 ∷ []));
     }
+
+pub returns-clause-reasons : goal.returns-clause-reasons
+returns-clause-reasons g c = λ all.
+    let h = c.args.self.now.history.items in
+    let e1 : Event = event.Do c.ops-at.result 0 c.args.line c.args.call c.replies-reply.result.0 in
+    let e2 : Event = event.Ret c.ops-at-2.result c.len-place.result c.durable-answer.result in
+    let items : c.push_reserved-2.new.self.items ≡ (h ++ e1 ∷ []) ++ e2 ∷ [] =
+      c.push_reserved-2.ensures.items ∙ ap (λ (v : Vec Event _). v.items ++ e2 ∷ []) c.durable-answer.ensures.history ∙ ap (λ (es : List Event). es ++ e2 ∷ []) c.push_reserved.ensures.items in
+    reasons_answered c.args.self.now.disabled c.durable-answer.new.self.disabled h c.push_reserved-2.new.self.items c.args.call c.args.line c.ops-at.result c.ops-at-2.result c.len-place.result
+      c.replies-reply.result.0 c.durable-answer.result c.durable-answer.ensures.stays c.replies-reply.ensures.reason
+      (c.durable-answer.ensures.reason (subst (λ (r : Reply). IsReasoned c.args.self.now.disabled r) (sym c.replies-reply.ensures.copy) c.replies-reply.ensures.reason)) items all
