@@ -39,11 +39,17 @@ places e = e ∷ None ∷ None ∷ None ∷ None ∷ None ∷ []
 abbrev pub inode_for : List DirectoryBlock → Node → InodeValue
 inode_for blocks (IsFile f) = record {
   inode = record { kind = File; mode = f.mode; nlink = f.nlink; size = length f.bytes; attrs = f.attrs };
-  maps = 0; extents = 0; first = places None; map = None;
+  maps = 0;
+  extents = 0;
+  first = places None;
+  map = None;
 }
 inode_for blocks (IsDirectory d) = record {
   inode = record { kind = Directory; mode = d.mode; nlink = 1; size = 1024 * length blocks; attrs = no_attrs };
-  maps = 0; extents = length blocks; first = places (first_extent blocks); map = None;
+  maps = 0;
+  extents = length blocks;
+  first = places (first_extent blocks);
+  map = None;
 }
 
 abbrev pub inode_value : State → ℕ → Option InodeValue
