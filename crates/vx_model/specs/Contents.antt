@@ -23,6 +23,9 @@ volume l = record { block = 1024; first = 2 + l.log_blocks; units = l.units }
 
 -- ---- inodes
 
+abbrev pub block_numbers : List DirectoryBlock → List ℕ
+block_numbers blocks = map (λ (d : DirectoryBlock). d.block) blocks
+
 abbrev pub one_block : DirectoryBlock → Extent
 one_block d = record { page = 0; start = d.block; len = 1; kind = Data }
 
@@ -64,7 +67,7 @@ pub record Claim : Type 0 where
 
 abbrev pub claim_among : ℕ → ℕ → List DirectoryBlock → Option Claim
 claim_among n b [] = None
-claim_among n b (d ∷ ds) = if d.block == b then Some (record { ino = n; entries = d.entries }) else claim_among n b ds
+claim_among n b (d ∷ ds) = if b == d.block then Some (record { ino = n; entries = d.entries }) else claim_among n b ds
 
 abbrev pub or_claim : Option Claim → Option Claim → Option Claim
 or_claim None other = other
@@ -110,6 +113,6 @@ units_changed None = 0 ∷ []
 abbrev pub entry_changes : Layout → ℕ → DirEntry → Layout → Changes
 entry_changes old at e new = record {
   inodes = at ∷ e.ino ∷ [];
-  blocks = map (λ (d : DirectoryBlock). d.block) (blocks_at new at);
+  blocks = block_numbers (blocks_at new at);
   units = units_changed (with_entry (blocks_at old at) e);
 }

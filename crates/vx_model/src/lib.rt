@@ -2,3 +2,4 @@
 #![tactic(auto)]
 
 pub mod images;
+pub mod states;
