@@ -2,3 +2,4 @@ pub mod Laws
 pub mod Runs
 pub mod Standing
 pub mod Changing
+pub mod Reading
