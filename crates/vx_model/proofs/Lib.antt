@@ -1,2 +1,5 @@
 pub mod Laws
 pub mod Runs
+pub mod Standing
+pub mod Changing
+pub mod Reading

@@ -9,3 +9,6 @@ pub mod Making
 pub mod Naming
 pub mod Step
 pub mod Legal
+pub mod Images
+pub mod Reads
+pub mod Contents

@@ -1,2 +1,5 @@
-//! What a mount means: the tree, what a call does, which histories are legal.
+//! What a mount means: the tree, what a call does, which histories are legal, and what an image reads as.
 #![tactic(auto)]
+
+pub mod images;
+pub mod states;

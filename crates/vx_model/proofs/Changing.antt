@@ -1,0 +1,235 @@
+-- Making a name changes its own places alone.
+use Rattle.std.proofs.Common.{◌≡◌, ◌≢◌, ℕ, zero, suc, ◌+◌, ◌*◌, ◌<◌, ◌≤◌, Bool, true, false, cond, List, [], ◌∷◌, ◌++◌, map, length, Option, Some, None, ◌-◌, Result, Ok, Err, refl, sym, ap, subst, ◌∙◌, arith, inl, inr}
+use Rattle.std.specs.Prelude.{◌||◌, ◌==◌, nat_lt, nat_le, is_some, if◌then◌else◌}
+use Rattle.std.specs.Option.{option_map, unwrap_or}
+use Rattle.std.specs.FinMap as map
+use Rattle.std.proofs.lemmas.Bool.{eq-eqb, ne_eqb, cases_eq, true≢false}
+use Rattle.vx_base.proofs.Maps.{at_key, at_other}
+use Rattle.vx_base.specs.Paths.{FileName}
+use Rattle.vx_base.specs.declared.refusal.Refusal.TheVariants as no
+use Rattle.vx_base.specs.declared.reply.Reply.TheVariants as say
+use Rattle.vx_base.specs.declared.inode.DirEntry.{DirEntry}
+use Rattle.vx_layout.specs.Places.{unit_block, first_data, per_block}
+use Rattle.vx_model.specs.Outcome.{Maybe, unless, ◌>>=◌}
+use Rattle.vx_model.specs.Tree.{Tree, Node, Nodes, Directory}
+use Rattle.vx_model.specs.Layout.{DirectoryBlock, Layout, Directories, first_data_block, has_room, behind, with_entry, blocks_at, with_blocks, with_new_block, filled_or_new, add_entry}
+use Rattle.vx_model.specs.State.{State, Done}
+use Rattle.vx_model.specs.Making.{with_name, added, make_as}
+use Rattle.vx_model.specs.Images.{Parsed, used_in, Changes, among, SameBut}
+use Rattle.vx_model.specs.Contents.{volume, block_numbers, inode_for, inode_value, Claim, claim_among, or_claim, claim_below, claim_of, parsed_of, units_changed, entry_changes}
+use Rattle.vx_model.proofs.Standing.{neither}
+
+-- ---- lists of blocks
+
+pub not_first : (x y : ℕ) (ys : List ℕ) → among (y ∷ ys) x ≡ false → x ≢ y
+not_first x y ys h e = true≢false (sym (eq-eqb x y e) ∙ (neither (x == y) (among ys x) h).0)
+
+pub not_rest : (x y : ℕ) (ys : List ℕ) → among (y ∷ ys) x ≡ false → among ys x ≡ false
+not_rest x y ys h = (neither (x == y) (among ys x) h).1
+
+claimed_by : (n b : ℕ) (d : DirectoryBlock) (ds : List DirectoryBlock) (t : Bool) → is_some (claim_among n b ds) ≡ among (block_numbers ds) b
+    → is_some (cond t (Some (record { ino = n; entries = d.entries })) (claim_among n b ds)) ≡ (t || among (block_numbers ds) b)
+claimed_by n b d ds true h = refl
+claimed_by n b d ds false h = h
+
+-- a block is claimed where it stands among the blocks
+pub claimed : (n b : ℕ) (ds : List DirectoryBlock) → is_some (claim_among n b ds) ≡ among (block_numbers ds) b
+claimed n b [] = refl
+claimed n b (d ∷ ds) = claimed_by n b d ds (b == d.block) (claimed n b ds)
+
+none_of : (o : Option Claim) → is_some o ≡ false → o ≡ None
+none_of None h = refl
+none_of (Some c) h = absurd cc
+
+pub unclaimed : (n b : ℕ) (ds : List DirectoryBlock) → among (block_numbers ds) b ≡ false → claim_among n b ds ≡ None
+unclaimed n b ds h = none_of (claim_among n b ds) (claimed n b ds ∙ h)
+
+-- an entry more leaves the blocks' numbers
+behind_numbers : (d : DirectoryBlock) (ds filled : List DirectoryBlock) (o : Option (List DirectoryBlock)) → ((more : List DirectoryBlock) → o ≡ Some more → block_numbers more ≡ block_numbers ds)
+    → behind d o ≡ Some filled → block_numbers filled ≡ block_numbers (d ∷ ds)
+behind_numbers d ds filled None same h = absurd cc
+behind_numbers d ds filled (Some more) same h =
+    let e : d ∷ more ≡ filled = cc in
+    ap block_numbers (sym e) ∙ ap (λ ns. d.block ∷ ns) (same more refl)
+
+first_numbers : (d : DirectoryBlock) (ds filled : List DirectoryBlock) (e : DirEntry) (t : Bool)
+    → ((more : List DirectoryBlock) → with_entry ds e ≡ Some more → block_numbers more ≡ block_numbers ds)
+    → cond t (Some (record d { entries = d.entries ++ e ∷ [] } ∷ ds)) (behind d (with_entry ds e)) ≡ Some filled → block_numbers filled ≡ block_numbers (d ∷ ds)
+first_numbers d ds filled e true same h =
+    let is : record d { entries = d.entries ++ e ∷ [] } ∷ ds ≡ filled = cc in
+    ap block_numbers (sym is)
+first_numbers d ds filled e false same h = behind_numbers d ds filled (with_entry ds e) same h
+
+pub filled_numbers : (ds filled : List DirectoryBlock) (e : DirEntry) → with_entry ds e ≡ Some filled → block_numbers filled ≡ block_numbers ds
+filled_numbers [] filled e h = absurd cc
+filled_numbers (d ∷ ds) filled e h = first_numbers d ds filled e (has_room d e) (λ more. filled_numbers ds more e) h
+
+-- a block behind the others
+among_push : (b : ℕ) (ds : List DirectoryBlock) (x : DirectoryBlock) → b ≢ x.block → among (block_numbers (ds ++ x ∷ [])) b ≡ among (block_numbers ds) b
+among_push b [] x ne = ap (λ t. t || false) (ne_eqb b x.block ne)
+among_push b (d ∷ ds) x ne = ap (λ t. (b == d.block) || t) (among_push b ds x ne)
+
+or_false : (a c : Bool) → a ≡ false → c ≡ false → (a || c) ≡ false
+or_false a c h k = (λ i. h i || k i)
+
+among_front : (b : ℕ) (ds : List DirectoryBlock) (x : DirectoryBlock) → among (block_numbers (ds ++ x ∷ [])) b ≡ false → among (block_numbers ds) b ≡ false
+among_front b [] x h = refl
+among_front b (d ∷ ds) x h =
+    let m = neither (b == d.block) (among (block_numbers (ds ++ x ∷ [])) b) h in
+    or_false (b == d.block) (among (block_numbers ds) b) m.0 (among_front b ds x m.1)
+
+-- ---- the layout
+
+pub same_at : (l : Layout) (at : ℕ) (blocks : List DirectoryBlock) → blocks_at (with_blocks l at blocks) at ≡ blocks
+same_at l at blocks = ap (λ (o : Option (List DirectoryBlock)). unwrap_or o []) (at_key l.directories at blocks)
+
+pub other_at : (l : Layout) (at : ℕ) (blocks : List DirectoryBlock) (n : ℕ) → n ≢ at → blocks_at (with_blocks l at blocks) n ≡ blocks_at l n
+other_at l at blocks n ne = ap (λ (o : Option (List DirectoryBlock)). unwrap_or o []) (at_other l.directories at blocks n ne)
+
+claims_below : (l m : Layout) (b : ℕ) → ((n : ℕ) → claim_among n b (blocks_at m n) ≡ claim_among n b (blocks_at l n)) → (n : ℕ) → claim_below m b n ≡ claim_below l b n
+unfolding claim_below
+claims_below l m b same zero = refl
+claims_below l m b same (suc n) = λ i. or_claim (same n i) (claims_below l m b same n i)
+
+some_or : (a c : Option Claim) → is_some (or_claim a c) ≡ (is_some a || is_some c)
+some_or None c = refl
+some_or (Some x) c = refl
+
+used_below : (l m : Layout) (b : ℕ) → ((n : ℕ) → is_some (claim_among n b (blocks_at m n)) ≡ is_some (claim_among n b (blocks_at l n))) → (n : ℕ) → is_some (claim_below m b n) ≡ is_some (claim_below l b n)
+unfolding claim_below
+used_below l m b same zero = refl
+used_below l m b same (suc n) =
+    some_or (claim_among n b (blocks_at m n)) (claim_below m b n)
+    ∙ (λ i. same n i || used_below l m b same n i)
+    ∙ sym (some_or (claim_among n b (blocks_at l n)) (claim_below l b n))
+
+-- ---- a directory with other blocks
+
+some_map : {X : Type 0} (f : Claim → X) (o : Option Claim) → is_some (option_map f o) ≡ is_some o
+some_map f None = refl
+some_map f (Some c) = refl
+
+module _ (l : Layout) (at : ℕ) (blocks : List DirectoryBlock) where
+  claims_same : ((n b : ℕ) → among (block_numbers blocks) b ≡ false → among (block_numbers (blocks_at l at)) b ≡ false)
+      → (b : ℕ) → among (block_numbers blocks) b ≡ false → claim_of (with_blocks l at blocks) b ≡ claim_of l b
+  claims_same less b h = claims_below l (with_blocks l at blocks) b (λ n. elim (cases_eq n at) [
+    | inl e ↦ subst (λ (k : ℕ). claim_among k b (blocks_at (with_blocks l at blocks) k) ≡ claim_among k b (blocks_at l k)) (sym e)
+        (ap (claim_among at b) (same_at l at blocks) ∙ unclaimed at b blocks h ∙ sym (unclaimed at b (blocks_at l at) (less at b h)))
+    | inr ne ↦ ap (claim_among n b) (other_at l at blocks n ne)
+  ]) (128 * l.units)
+
+  used_same : (b : ℕ) → among (block_numbers blocks) b ≡ among (block_numbers (blocks_at l at)) b → is_some (claim_of (with_blocks l at blocks) b) ≡ is_some (claim_of l b)
+  used_same b h = used_below l (with_blocks l at blocks) b (λ n. elim (cases_eq n at) [
+    | inl e ↦ subst (λ (k : ℕ). is_some (claim_among k b (blocks_at (with_blocks l at blocks) k)) ≡ is_some (claim_among k b (blocks_at l k))) (sym e)
+        (ap (λ ds. is_some (claim_among at b ds)) (same_at l at blocks) ∙ claimed at b blocks ∙ h ∙ sym (claimed at b (blocks_at l at)))
+    | inr ne ↦ ap (λ ds. is_some (claim_among n b ds)) (other_at l at blocks n ne)
+  ]) (128 * l.units)
+
+-- ---- a new name
+
+module _ (s : State) (at : ℕ) (d : Directory) (name : FileName) (node : Node) (ino : ℕ) where
+  abbrev state_with : Layout → State
+  state_with layout = record { tree = added s.tree at d name ino node; layout = layout }
+
+  abbrev entry : DirEntry
+  entry = record { ino = ino; name = name }
+
+  -- what the blocks of the directory have to keep
+  record Keeps (blocks : List DirectoryBlock) (units : List ℕ) : Type 0 where
+    less : (b : ℕ) → among (block_numbers blocks) b ≡ false → among (block_numbers (blocks_at s.layout at)) b ≡ false
+    used : (u j : ℕ) → j < 4096 → among units u ≡ false
+        → among (block_numbers blocks) (unit_block (volume s.layout) u + j) ≡ among (block_numbers (blocks_at s.layout at)) (unit_block (volume s.layout) u + j)
+
+  nodes_other : (n : ℕ) → n ≢ at → n ≢ ino → map.get (added s.tree at d name ino node).nodes n ≡ map.get s.tree.nodes n
+  nodes_other n na ni = at_other (map.insert s.tree.nodes ino node) at (with_name d name ino) n na ∙ at_other s.tree.nodes ino node n ni
+
+  same_but : (blocks : List DirectoryBlock) (units : List ℕ) → Keeps blocks units
+      → SameBut (volume s.layout) (parsed_of s) (parsed_of (state_with (with_blocks s.layout at blocks))) (record { inodes = at ∷ ino ∷ []; blocks = block_numbers blocks; units = units })
+  same_but blocks units keeps = record {
+    inodes = λ n h.
+        let na = not_first n at (ino ∷ []) h in
+        let ni = not_first n ino [] (not_rest n at (ino ∷ []) h) in
+        λ i. option_map (inode_for (other_at s.layout at blocks n na i)) (nodes_other n na ni i);
+    blocks = λ b h. ap (option_map (λ (c : Claim). c.entries)) (claims_same s.layout at blocks (λ n. keeps.less) b h);
+    units = λ u j lt h.
+        let b : ℕ = unit_block (volume s.layout) u + j in
+        ap (λ t. nat_lt j (first_data (per_block (volume s.layout))) || t)
+        (some_map (λ (c : Claim). c.ino) (claim_of (with_blocks s.layout at blocks) b)
+        ∙ used_same s.layout at blocks b (keeps.used u j lt h)
+        ∙ sym (some_map (λ (c : Claim). c.ino) (claim_of s.layout b)));
+  }
+
+  abbrev Law : State → List ℕ → Type 0
+  Law new units = SameBut (volume s.layout) (parsed_of s) (parsed_of new) (record { inodes = at ∷ ino ∷ []; blocks = block_numbers (blocks_at new.layout at); units = units })
+
+  abbrev finish : Layout → Maybe Done
+  finish layout = Ok (record { state = state_with layout; reply = say.Made ino })
+
+  law_with : (blocks : List DirectoryBlock) (units : List ℕ) → Keeps blocks units → Law (state_with (with_blocks s.layout at blocks)) units
+  law_with blocks units keeps =
+      let P : List DirectoryBlock → Type 0 = λ bs. SameBut (volume s.layout) (parsed_of s) (parsed_of (state_with (with_blocks s.layout at blocks))) (record { inodes = at ∷ ino ∷ []; blocks = block_numbers bs; units = units }) in
+      subst P (sym (same_at s.layout at blocks)) (same_but blocks units keeps)
+
+  filled_keeps : (filled : List DirectoryBlock) → with_entry (blocks_at s.layout at) entry ≡ Some filled → Keeps filled []
+  filled_keeps filled is =
+      let same : block_numbers filled ≡ block_numbers (blocks_at s.layout at) = filled_numbers (blocks_at s.layout at) filled entry is in
+      record {
+        less = λ b h. subst (λ ns. among ns b ≡ false) same h;
+        used = λ u j lt h. ap (λ ns. among ns (unit_block (volume s.layout) u + j)) same;
+      }
+
+  abbrev new_block : DirectoryBlock
+  new_block = record { block = first_data_block s.layout; entries = entry ∷ [] }
+
+  new_keeps : Keeps (blocks_at s.layout at ++ new_block ∷ []) (0 ∷ [])
+  new_keeps = record {
+    less = λ b h. among_front b (blocks_at s.layout at) new_block h;
+    used = λ u j lt h.
+        let nu = not_first u 0 [] h in
+        among_push (unit_block (volume s.layout) u + j) (blocks_at s.layout at) new_block (λ e. omega arith);
+  }
+
+  limited : (t : Bool) (done : Done)
+      → (unless t (no.TooBig (1024 * (length (blocks_at s.layout at) + 1))) (Ok (with_blocks s.layout at (blocks_at s.layout at ++ new_block ∷ []))) >>= finish) ≡ Ok done
+      → done.state ≡ state_with (with_blocks s.layout at (blocks_at s.layout at ++ new_block ∷ []))
+  limited true done h =
+      let e : ◌≡◌ {A = Done} (record { state = state_with (with_blocks s.layout at (blocks_at s.layout at ++ new_block ∷ [])); reply = say.Made ino }) done = cc in
+      sym (ap (λ (x : Done). x.state) e)
+  limited false done h = absurd cc
+
+  -- what is left, by whether a block had room
+  abbrev next_blocks : Option (List DirectoryBlock) → List DirectoryBlock
+  next_blocks (Some filled) = filled
+  next_blocks None = blocks_at s.layout at ++ new_block ∷ []
+
+  left_by : (o : Option (List DirectoryBlock)) (done : Done) → (filled_or_new s.layout at (blocks_at s.layout at) entry o >>= finish) ≡ Ok done
+      → done.state ≡ state_with (with_blocks s.layout at (next_blocks o))
+  left_by (Some filled) done h =
+      let e : ◌≡◌ {A = Done} (record { state = state_with (with_blocks s.layout at filled); reply = say.Made ino }) done = cc in
+      sym (ap (λ (x : Done). x.state) e)
+  left_by None done h = limited (nat_le (length (blocks_at s.layout at) + 1) s.layout.directory_limit) done h
+
+  keeps_by : (o : Option (List DirectoryBlock)) → with_entry (blocks_at s.layout at) entry ≡ o → Keeps (next_blocks o) (units_changed o)
+  keeps_by (Some filled) is = filled_keeps filled is
+  keeps_by None is = new_keeps
+
+  room_by : (t : Bool) (done : Done)
+      → unless t (no.NoInodes (128 * s.layout.units - 2)) (add_entry s.layout at entry >>= finish) ≡ Ok done
+      → (t ≡ true) × (done.state ≡ state_with (with_blocks s.layout at (next_blocks (with_entry (blocks_at s.layout at) entry))))
+  room_by true done h = (refl, left_by (with_entry (blocks_at s.layout at) entry) done h)
+  room_by false done h = absurd cc
+
+  -- what making a name leaves
+  pub made : (done : Done) → make_as s at d name node ino ≡ Ok done
+      → (nat_lt ino (128 * s.layout.units) ≡ true) × (done.state ≡ state_with (with_blocks s.layout at (next_blocks (with_entry (blocks_at s.layout at) entry))))
+  made done h = room_by (nat_lt ino (128 * s.layout.units)) done h
+
+  pub make_changes : (done : Done) → make_as s at d name node ino ≡ Ok done
+      → SameBut (volume s.layout) (parsed_of s) (parsed_of done.state) (entry_changes s.layout at entry done.state.layout)
+  make_changes done h =
+      let o : Option (List DirectoryBlock) = with_entry (blocks_at s.layout at) entry in
+      subst (λ (new : State). Law new (units_changed (with_entry (blocks_at s.layout at) entry))) (sym (made done h).1)
+      (law_with (next_blocks (with_entry (blocks_at s.layout at) entry)) (units_changed (with_entry (blocks_at s.layout at) entry)) (keeps_by (with_entry (blocks_at s.layout at) entry) refl))
+
+  pub make_volume : (done : Done) → make_as s at d name node ino ≡ Ok done → volume done.state.layout ≡ volume s.layout
+  make_volume done h = ap (λ (x : State). volume x.layout) (made done h).1
