@@ -175,8 +175,8 @@ pub reasons_answered : (old now : Option ℕ) (h new : List Event) (call : Call)
     → new ≡ (h ++ begun at line call reply ∷ []) ++ event.Ret later place answer ∷ [] → All (AnswersWithReason old) h → All (AnswersWithReason now) new
 reasons_answered old now h new call line at later place reply answer stays first second are all =
     subst (λ (es : List Event). All (AnswersWithReason now) es) (sym are)
-      (All-push (AnswersWithReason now) (h ++ begun at line call reply ∷ []) (event.Ret later place answer)
-        (All-push (AnswersWithReason now) h (begun at line call reply) (reasons_stay old now h stays all) (reply_stays old now reply stays first)) second)
+    (All-push (AnswersWithReason now) (h ++ begun at line call reply ∷ []) (event.Ret later place answer)
+    (All-push (AnswersWithReason now) h (begun at line call reply) (reasons_stay old now h stays all) (reply_stays old now reply stays first)) second)
 
 pub reasons_unmounted : (old now : Option ℕ) (h new : List Event) (at : ℕ) → StaysDisabled old now → new ≡ h ++ event.Unmounted at ∷ [] → All (AnswersWithReason old) h → All (AnswersWithReason now) new
 reasons_unmounted old now h new at stays are all =

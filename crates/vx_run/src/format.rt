@@ -4,14 +4,17 @@ ghost use Rattle.vx_base.specs.Faults.{HasCause};
 ghost use Rattle.vx_run.specs.Devices.{Onward};
 
 use crate::device::{pass, put};
-use vx_base::{ExtAttrs, FileKind, Inode, InodeValue};
-use vx_codec::{inode_sector, write_bits};
+use crate::sectors::{bits_of_unit, directory_value};
+use vx_codec::inode_sector;
 use vx_dev::{BlockDev, DevFault};
 use vx_layout::Super;
 use vx_log::head_sector;
 
 /// The log's blocks.
 pub const LOG_BLOCKS: u32 = 512;
+
+/// The root's permission bits in a new file system.
+const ROOT_MODE: u16 = 0o755;
 
 /// The superblock of a mounted file system, or of one that was left clean.
 pub fn superblock(clean: bool) -> Super
@@ -24,41 +27,11 @@ pub fn superblock(clean: bool) -> Super
     }
 }
 
-/// An inode without blocks.
-fn empty_root() -> InodeValue {
-    InodeValue {
-        inode: Inode {
-            kind: FileKind::Directory,
-            mode: 0o755,
-            nlink: 1,
-            size: 0,
-            attrs: ExtAttrs {
-                fixed: 0,
-                reserve: 0,
-                flags: 0,
-            },
-        },
-        maps: 0,
-        extents: 0,
-        first: [None; 6],
-        map: None,
-    }
-}
-
-/// The blocks of a unit that are never free: its bitmap and its inodes.
-fn first_bits() -> [u8; 512] {
-    let mut used = [false; 4096];
-    for j in 0..33 {
-        used[j] = true;
-    }
-    write_bits(&used)
-}
-
 /// The sector with this number of a new unit.
 fn unit_sector(i: u64) -> [u8; 512] {
     match i {
-        0 => first_bits(),
-        3 => inode_sector(Some(&empty_root()), None),
+        0 => bits_of_unit(false),
+        3 => inode_sector(Some(&directory_value(ROOT_MODE, &[])), None),
         _ => [0; 512],
     }
 }

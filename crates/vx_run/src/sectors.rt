@@ -53,7 +53,7 @@ fn stage_first(batch: &mut Batch, metadata: &Metadata)
     ensures { IsPart 2 batch.new }
 {
     if metadata.entries.len() == 1 {
-        batch.set(SectorNo::new(BITMAP), &bitmap(metadata));
+        batch.set(SectorNo::new(BITMAP), &bits_of_unit(true));
         batch.set(
             SectorNo::new(INODES + ROOT / 2),
             &inode_pair(metadata, ROOT / 2),
@@ -61,12 +61,13 @@ fn stage_first(batch: &mut Batch, metadata: &Metadata)
     }
 }
 
-fn bitmap(metadata: &Metadata) -> [u8; 512] {
+/// The bitmap of the only unit: its own block and those of the inodes are in use, and the root's block where that is there.
+pub fn bits_of_unit(root_block: bool) -> [u8; 512] {
     let mut used = [false; 4096];
     for j in 0..33 {
         used[j] = true;
     }
-    used[33] = !metadata.entries.is_empty();
+    used[33] = root_block;
     write_bits(&used)
 }
 
@@ -104,7 +105,7 @@ fn inode_value(metadata: &Metadata, ino: u32) -> Option<InodeValue> {
 }
 
 /// The root's slot, whose block is there where it has entries.
-fn directory_value(mode: u16, entries: &[DirEntry]) -> InodeValue {
+pub fn directory_value(mode: u16, entries: &[DirEntry]) -> InodeValue {
     let block = Extent {
         page: Page::new(0),
         start: Block::new(ROOT_BLOCK),

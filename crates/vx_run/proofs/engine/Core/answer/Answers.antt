@@ -43,7 +43,7 @@ returns-clause-reasons g c = λ all.
     let e1 : Event = event.Do c.ops-at.result 0 c.args.line c.args.call c.replies-reply.result.0 in
     let e2 : Event = event.Ret c.ops-at-2.result c.len-place.result c.durable-answer.result in
     let items : c.push_reserved-2.new.self.items ≡ (h ++ e1 ∷ []) ++ e2 ∷ [] =
-      c.push_reserved-2.ensures.items ∙ ap (λ (v : Vec Event _). v.items ++ e2 ∷ []) c.durable-answer.ensures.history ∙ ap (λ (es : List Event). es ++ e2 ∷ []) c.push_reserved.ensures.items in
+    c.push_reserved-2.ensures.items ∙ ap (λ (v : Vec Event _). v.items ++ e2 ∷ []) c.durable-answer.ensures.history ∙ ap (λ (es : List Event). es ++ e2 ∷ []) c.push_reserved.ensures.items in
     reasons_answered c.args.self.now.disabled c.durable-answer.new.self.disabled h c.push_reserved-2.new.self.items c.args.call c.args.line c.ops-at.result c.ops-at-2.result c.len-place.result
-      c.replies-reply.result.0 c.durable-answer.result c.durable-answer.ensures.stays c.replies-reply.ensures.reason
-      (c.durable-answer.ensures.reason (subst (λ (r : Reply). IsReasoned c.args.self.now.disabled r) (sym c.replies-reply.ensures.copy) c.replies-reply.ensures.reason)) items all
+    c.replies-reply.result.0 c.durable-answer.result c.durable-answer.ensures.stays c.replies-reply.ensures.reason
+    (c.durable-answer.ensures.reason (subst (λ (r : Reply). IsReasoned c.args.self.now.disabled r) (sym c.replies-reply.ensures.copy) c.replies-reply.ensures.reason)) items all
