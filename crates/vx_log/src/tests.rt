@@ -4,13 +4,13 @@ ghost use Rattle.std.specs.Prelude.{◌≡◌, ◌<◌, ◌≤◌, IfOk, IsNone,
 use crate::{Batch, Log};
 use std::alloc::{AllocError, Global};
 use std::test::Fail;
-use vx_base::SectorNo;
-use vx_dev::{BlockDev, DevFault, MemDisk};
+use vx_base::{NumList, SectorNo};
+use vx_dev::{BlockDev, DevFault, Image, MemDisk};
 
 /// A disk of 2,048 zero sectors.
 fn disk(alloc: Global) -> Result<MemDisk, AllocError> {
-    let start = vec![in alloc; [0; 512]; 2048]?;
-    MemDisk::new(alloc, start, 16, Vec::new(alloc), Vec::new(alloc))
+    let image = Image::zeroed(alloc, 2048)?;
+    MemDisk::new(alloc, image, 16, NumList::new(alloc), NumList::new(alloc))
 }
 
 /// The sectors of the first create in the root of a new image.
@@ -28,8 +28,8 @@ fn first_batch(alloc: Global) -> Result<Batch, AllocError>
 
 /// Whether the sector begins with these bytes.
 fn begins_with(disk: &mut MemDisk, s: u64, bytes: &[u8]) -> Result<bool, DevFault>
-    requires { s < length disk.old.start.items }
-    ensures { length disk.new.start.items ≡ length disk.old.start.items }
+    requires { s < length disk.old.start }
+    ensures { length disk.new.start ≡ length disk.old.start }
 {
     let mut sector = [0; 512];
     disk.read(s, &mut sector)?;
@@ -38,8 +38,8 @@ fn begins_with(disk: &mut MemDisk, s: u64, bytes: &[u8]) -> Result<bool, DevFaul
 
 /// A new log with its first batch written.
 fn committed(alloc: Global, disk: &mut MemDisk) -> Result<Log, Fail>
-    requires { length disk.old.start.items ≡ 2048 }
-    ensures size { length disk.new.start.items ≡ length disk.old.start.items }
+    requires { length disk.old.start ≡ 2048 }
+    ensures size { length disk.new.start ≡ length disk.old.start }
     ensures log { IfOk result (λ log. (log.sectors ≡ 1024) × IsNone log.closing) }
 {
     let mut log = Log::fresh(alloc, 512)?;
