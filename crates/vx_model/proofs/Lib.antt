@@ -3,3 +3,4 @@ pub mod Runs
 pub mod Standing
 pub mod Changing
 pub mod Reading
+pub mod Formatting

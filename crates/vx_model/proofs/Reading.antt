@@ -129,7 +129,7 @@ root_below l b none (suc n) lt =
       | inr ne ↦ ap (λ ds. or_claim (claim_among n b ds) (claim_below l b n)) (none n ne) ∙ root_below l b none n (omega arith)
     ]
 
-root_claim : (s : State) → IsLaidOut s → (b : ℕ) → claim_of s.layout b ≡ claim_among root b (blocks_at s.layout root)
+pub root_claim : (s : State) → IsLaidOut s → (b : ℕ) → claim_of s.layout b ≡ claim_among root b (blocks_at s.layout root)
 root_claim s is b =
     let some : 0 < s.layout.units = is.units in
     root_below s.layout b (λ n ne. no_blocks s.layout n (blocks_at s.layout n) ne (is.blocks n)) (128 * s.layout.units) (omega arith)

@@ -1,12 +1,27 @@
 //! What an image of each state says.
-ghost use Rattle.std.specs.Prelude.{◌≡◌, ℕ, List, Ok};
+ghost use Rattle.std.specs.Prelude.{◌≡◌, ◌≤◌, ℕ, List, Ok};
 ghost use Rattle.vx_base.specs.Paths.{FileName};
 ghost use Rattle.vx_layout.specs.LogForms.{AfterImage};
 ghost use Rattle.vx_model.specs.Tree.{Directory, Node};
-ghost use Rattle.vx_model.specs.State.{State, Done};
+ghost use Rattle.vx_model.specs.State.{State, Done, fresh};
 ghost use Rattle.vx_model.specs.Making.{make_as};
 ghost use Rattle.vx_model.specs.Images.{Stands, SameBut, IsBatch, overlaid};
-ghost use Rattle.vx_model.specs.Contents.{volume, parsed_of, entry_changes};
+ghost use Rattle.vx_model.specs.Reads.{ImageReadsAs};
+ghost use Rattle.vx_model.specs.Contents.{volume, parsed_of, IsFormatted, IsLaidOut, entry_changes};
+
+/// An image that says a state reads as the state's tree.
+pub fn state_reads()
+    ensures { (s : State) (image : ℕ → List ℕ) → IsLaidOut s → Stands (volume s.layout) (parsed_of s) image → ImageReadsAs (volume s.layout) image s.tree }
+{}
+
+/// A formatted image says the fresh state, and so it reads as the root alone.
+pub fn fresh_reads()
+    ensures laid_out { (log_blocks limit : ℕ) → log_blocks ≤ 2048 → limit ≤ 1 → IsLaidOut (fresh log_blocks limit) }
+    ensures stands { (log_blocks limit : ℕ) → log_blocks ≤ 2048 → limit ≤ 1 → (image : ℕ → List ℕ) → IsFormatted (volume (fresh log_blocks limit).layout) image
+        → Stands (volume (fresh log_blocks limit).layout) (parsed_of (fresh log_blocks limit)) image }
+    ensures reads { (log_blocks limit : ℕ) → log_blocks ≤ 2048 → limit ≤ 1 → (image : ℕ → List ℕ) → IsFormatted (volume (fresh log_blocks limit).layout) image
+        → ImageReadsAs (volume (fresh log_blocks limit).layout) image (fresh log_blocks limit).tree }
+{}
 
 /// A new name changes its own places alone: the two inodes' sectors, the directory's blocks, and the bitmap where no block had room.
 pub fn make_changes()
