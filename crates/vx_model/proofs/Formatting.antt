@@ -21,7 +21,8 @@ use Rattle.vx_model.specs.State.{State, fresh}
 use Rattle.vx_model.specs.Walks.{root}
 use Rattle.vx_model.specs.Images.{Parsed, used_in, content, zero_sector, Stands}
 use Rattle.vx_model.specs.Reads.{ImageReadsAs}
-use Rattle.vx_model.specs.Contents.{volume, inode_for, inode_value, Claim, claim_among, claim_of, parsed_of, fresh_root, IsFormatted, AreBlocks, IsKept, IsDirectoryNode, IsLaidOut}
+use Rattle.vx_model.specs.Contents.{volume, inode_for, inode_value, Claim, claim_among, claim_of, parsed_of, fresh_root, IsFormatted}
+use Rattle.vx_model.specs.LaidOut.{AreBlocks, IsKept, IsDirectoryNode, IsLaidOut}
 use Rattle.vx_model.proofs.Standing.{sector_same}
 use Rattle.vx_model.proofs.Reading.{root_claim, state_reads}
 

@@ -4,3 +4,4 @@ pub mod Standing
 pub mod Changing
 pub mod Reading
 pub mod Formatting
+pub mod Keeping

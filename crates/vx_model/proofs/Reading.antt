@@ -20,7 +20,8 @@ use Rattle.vx_model.specs.State.{State}
 use Rattle.vx_model.specs.Walks.{root}
 use Rattle.vx_model.specs.Images.{Parsed, among, Stands}
 use Rattle.vx_model.specs.Reads.{numbers, place_blocks, blocks_of, block_bytes, file_bytes, names_in, entries_from, node_by, node_of, IsTree, Valid, ImageReadsAs}
-use Rattle.vx_model.specs.Contents.{volume, one_block, first_extent, places, inode_for, inode_value, Claim, claim_among, or_claim, claim_below, claim_of, parsed_of, AreBlocks, IsKept, IsDirectoryNode, IsLaidOut}
+use Rattle.vx_model.specs.Contents.{volume, one_block, first_extent, places, inode_for, inode_value, Claim, claim_among, or_claim, claim_below, claim_of, parsed_of}
+use Rattle.vx_model.specs.LaidOut.{AreBlocks, IsKept, IsDirectoryNode, IsLaidOut}
 
 -- ---- inodes have a spelling
 

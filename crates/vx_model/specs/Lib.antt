@@ -12,3 +12,4 @@ pub mod Legal
 pub mod Images
 pub mod Reads
 pub mod Contents
+pub mod LaidOut

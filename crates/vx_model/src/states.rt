@@ -7,7 +7,8 @@ ghost use Rattle.vx_model.specs.State.{State, Done, fresh};
 ghost use Rattle.vx_model.specs.Making.{make_as};
 ghost use Rattle.vx_model.specs.Images.{Stands, SameBut, IsBatch, overlaid};
 ghost use Rattle.vx_model.specs.Reads.{ImageReadsAs};
-ghost use Rattle.vx_model.specs.Contents.{volume, parsed_of, IsFormatted, IsLaidOut, entry_changes};
+ghost use Rattle.vx_model.specs.Contents.{volume, parsed_of, IsFormatted, entry_changes};
+ghost use Rattle.vx_model.specs.LaidOut.{IsLaidOut};
 
 /// An image that says a state reads as the state's tree.
 pub fn state_reads()

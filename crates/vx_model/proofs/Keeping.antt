@@ -1,0 +1,166 @@
+-- What a create leaves is laid out as what it found.
+use Rattle.std.proofs.Common.{◌≡◌, ◌≢◌, ℕ, zero, suc, ◌+◌, ◌*◌, ◌<◌, ◌≤◌, Bool, true, false, cond, List, [], ◌∷◌, ◌++◌, map, length, Option, Some, None, Result, Ok, Err, refl, sym, ap, subst, ◌∙◌, arith, inl, inr, lit<, lit≤}
+use Rattle.std.specs.Prelude.{◌||◌, nat_lt, nat_le, is_none, is_some, IfSome}
+use Rattle.std.specs.List.{flat_map}
+use Rattle.std.specs.Ordering.{nat_cmp}
+use Rattle.std.specs.Cmp.Lexicographic.{nat_list_cmp_total}
+use Rattle.std.specs.FinMap as map
+use Rattle.std.proofs.lemmas.Bool.{cases_eq, ltb-true, leb-true}
+use Rattle.std.proofs.lemmas.List.{append-nil, map_push}
+use Rattle.vx_base.proofs.Maps.{at_key, at_other}
+use Rattle.vx_base.specs.Paths.{FileName}
+use Rattle.vx_base.specs.declared.inode.DirEntry.{DirEntry}
+use Rattle.vx_base.specs.declared.refusal.Refusal.{Refusal}
+use Rattle.vx_model.specs.Outcome.{Maybe, unless, ◌>>=◌, need}
+use Rattle.vx_model.specs.Legal.{IfThere}
+use Rattle.vx_model.specs.Tree.{Tree, Nodes, Node, File, Directory, IsFile, IsDirectory, Entries, lowest_absent, lowest_unused, new_file, tree_of_nodes}
+use Rattle.vx_model.specs.Layout.{DirectoryBlock, Layout, first_data_block, has_room, behind, with_entry, blocks_at, with_blocks}
+use Rattle.vx_model.specs.State.{State, Done}
+use Rattle.vx_model.specs.Paths.{PathEnd, path_end}
+use Rattle.vx_model.specs.Walks.{root, walk, names_of, node_at, as_directory, directory_at}
+use Rattle.vx_model.specs.Making.{with_name, added, make_as, make_in, make_at, make_along, create}
+use Rattle.vx_model.specs.Reads.{name_to_inode, entries_from}
+use Rattle.vx_model.specs.LaidOut.{AreBlocks, IsKept, IsDirectoryNode, IsLaidOut, Makes}
+use Rattle.vx_model.proofs.Changing.{next_blocks, Within, state_with, entry, same_at, other_at, made, made_within}
+
+-- ---- the directory's blocks
+
+abbrev names_of_blocks : List DirectoryBlock → List DirEntry
+names_of_blocks blocks = flat_map (λ (b : DirectoryBlock). b.entries) blocks
+
+record Next (l : Layout) (e : DirEntry) (old new : List DirectoryBlock) : Type 0 where
+  are : AreBlocks l root new
+  names : names_of_blocks new ≡ names_of_blocks old ++ e ∷ []
+
+one_next : (l : Layout) (e : DirEntry) (d : DirectoryBlock) (t : Bool) → l.directory_limit ≤ 1 → d.block ≡ first_data_block l
+    → Within l (d ∷ []) (cond t (Some (record d { entries = d.entries ++ e ∷ [] } ∷ [])) None)
+    → Next l e (d ∷ []) (next_blocks l e (d ∷ []) (cond t (Some (record d { entries = d.entries ++ e ∷ [] } ∷ [])) None))
+one_next l e d true one at within = record {
+  are = (refl, at, refl);
+  names = append-nil (d.entries ++ e ∷ []) ∙ ap (λ es. es ++ e ∷ []) (sym (append-nil d.entries));
+}
+one_next l e d false one at within = let two : 2 ≤ l.directory_limit = leb-true _ _ within in absurd (omega arith)
+
+next_is : (l : Layout) (e : DirEntry) (blocks : List DirectoryBlock) → l.directory_limit ≤ 1 → AreBlocks l root blocks
+    → Within l blocks (with_entry blocks e) → Next l e blocks (next_blocks l e blocks (with_entry blocks e))
+next_is l e [] one are within = record { are = (refl, refl, refl); names = refl }
+next_is l e (d ∷ ds) one are within =
+    subst (λ (rest : List DirectoryBlock). Within l (d ∷ rest) (with_entry (d ∷ rest) e) → Next l e (d ∷ rest) (next_blocks l e (d ∷ rest) (with_entry (d ∷ rest) e))) (sym are.2)
+    (one_next l e d (has_room d e) one are.1) within
+
+-- an entry behind the others under a new name
+pushed : (es : List DirEntry) (e : DirEntry) → map.get (entries_from es) e.name ≡ None → entries_from (es ++ e ∷ []) ≡ map.insert (entries_from es) e.name e.ino
+pushed es e free =
+    ap map.from_entries (map_push name_to_inode es e)
+    ∙ map.from_entries_push nat_list_cmp_total (map.slice_cmp-IsAntisymmetric map.nat_cmp-IsAntisymmetric) (map name_to_inode es) e.name e.ino
+    (sym (map.get-from_entries nat_list_cmp_total (map name_to_inode es) e.name) ∙ free)
+
+-- ---- a name in the root
+
+module _ (s : State) (is : IsLaidOut s) (d : Directory) (name : FileName) (mode ino : ℕ) where
+  abbrev next : Layout → State
+  next layout = state_with s root d name (new_file mode) ino layout
+
+  abbrev Fine : State → ℕ → Option Node → Type 0
+  Fine new n o = IfSome o (λ node. IsKept n (blocks_at new.layout n) node × (2 ≤ n) × (n < 128 * new.layout.units))
+
+  module _ (blocks : List DirectoryBlock) (here : IsKept root (blocks_at s.layout root) (IsDirectory d)) (new_name : map.get d.entries name ≡ None)
+      (low : mode ≤ 4095) (from : 3 ≤ ino) (to : ino < 128 * s.layout.units)
+      (after : Next s.layout (record { ino = ino; name = name }) (blocks_at s.layout root) blocks) where
+    abbrev left : State
+    left = next (with_blocks s.layout root blocks)
+
+    names_after : map.insert d.entries name ino ≡ entries_from (names_of_blocks (blocks_at left.layout root))
+    names_after =
+        let old : d.entries ≡ entries_from (names_of_blocks (blocks_at s.layout root)) = here.2 in
+        ap (λ (es : Entries). map.insert es name ino) old
+        ∙ sym (pushed (names_of_blocks (blocks_at s.layout root)) (record { ino = ino; name = name }) (ap (λ (es : Entries). map.get es name) (sym old) ∙ new_name))
+        ∙ ap entries_from (sym after.names)
+        ∙ ap (λ (bs : List DirectoryBlock). entries_from (names_of_blocks bs)) (sym (same_at s.layout root blocks))
+
+    root_node : map.get left.tree.nodes root ≡ Some (with_name d name ino)
+    root_node = at_key (map.insert s.tree.nodes ino (new_file mode)) root (with_name d name ino)
+
+    new_node : ino ≢ root → map.get left.tree.nodes ino ≡ Some (new_file mode)
+    new_node ne = at_other (map.insert s.tree.nodes ino (new_file mode)) root (with_name d name ino) ino ne ∙ at_key s.tree.nodes ino (new_file mode)
+
+    other_node : (n : ℕ) → n ≢ root → n ≢ ino → map.get left.tree.nodes n ≡ map.get s.tree.nodes n
+    other_node n nr ni = at_other (map.insert s.tree.nodes ino (new_file mode)) root (with_name d name ino) n nr ∙ at_other s.tree.nodes ino (new_file mode) n ni
+
+    other_fine : (n : ℕ) → n ≢ root → Fine left n (map.get s.tree.nodes n)
+    other_fine n nr =
+        subst (λ (bs : List DirectoryBlock). IfSome (map.get s.tree.nodes n) (λ node. IsKept n bs node × (2 ≤ n) × (n < 128 * s.layout.units))) (sym (other_at s.layout root blocks n nr)) (is.nodes n)
+
+    node_fine : (n : ℕ) → Fine left n (map.get left.tree.nodes n)
+    node_fine n =
+        let some : 0 < s.layout.units = is.units in
+        elim (cases_eq n root) [
+          | inl e ↦ subst (λ (k : ℕ). Fine left k (map.get left.tree.nodes k)) (sym e)
+              (subst (Fine left root) (sym root_node) ((here.0, refl, names_after), lit≤ tt, omega arith))
+          | inr nr ↦ elim (cases_eq n ino) [
+            | inl e ↦ subst (λ (k : ℕ). Fine left k (map.get left.tree.nodes k)) (sym e)
+                (subst (Fine left ino) (sym (new_node (λ x. nr (e ∙ x)))) ((low, refl), omega arith, to))
+            | inr ni ↦ subst (Fine left n) (sym (other_node n nr ni)) (other_fine n nr)
+          ]
+        ]
+
+    blocks_fine : (n : ℕ) → AreBlocks left.layout n (blocks_at left.layout n)
+    blocks_fine n =
+        elim (cases_eq n root) [
+          | inl e ↦ subst (λ (k : ℕ). AreBlocks s.layout k (blocks_at left.layout k)) (sym e) (subst (AreBlocks s.layout root) (sym (same_at s.layout root blocks)) after.are)
+          | inr nr ↦ subst (AreBlocks s.layout n) (sym (other_at s.layout root blocks n nr)) (is.blocks n)
+        ]
+
+    left_laid : IsLaidOut left
+    left_laid = record {
+      nodes = node_fine;
+      blocks = blocks_fine;
+      has_root = subst (λ (o : Option Node). IfThere o IsDirectoryNode) (sym root_node) tt;
+      units = is.units;
+      log_blocks = is.log_blocks;
+      limit = is.limit;
+      rest = ap (λ (t : Tree). record t { nodes = left.tree.nodes }) is.rest;
+    }
+
+kept_at : (s : State) → IsLaidOut s → (at : ℕ) (d : Directory) → map.get s.tree.nodes at ≡ Some (IsDirectory d) → IsKept at (blocks_at s.layout at) (IsDirectory d)
+kept_at s is at d there =
+    let fine = subst (λ (o : Option Node). IfSome o (λ node. IsKept at (blocks_at s.layout at) node × (2 ≤ at) × (at < 128 * s.layout.units))) there (is.nodes at) in fine.0
+
+in_root : (s : State) → IsLaidOut s → (d : Directory) (name : FileName) (mode ino : ℕ) (done : Done) → IsKept root (blocks_at s.layout root) (IsDirectory d)
+    → map.get d.entries name ≡ None → mode ≤ 4095 → 3 ≤ ino → make_as s root d name (new_file mode) ino ≡ Ok done → IsLaidOut done.state
+in_root s is d name mode ino done here new_name low from h =
+    let e : DirEntry = record { ino = ino; name = name } in
+    let two = made s root d name (new_file mode) ino done h in
+    let after = next_is s.layout (record { ino = ino; name = name }) (blocks_at s.layout root) is.limit (is.blocks root) (made_within s root d name (new_file mode) ino done h) in
+    subst IsLaidOut (sym two.1)
+    (left_laid s is d name mode ino (next_blocks s.layout (record { ino = ino; name = name }) (blocks_at s.layout root) (with_entry (blocks_at s.layout root) (record { ino = ino; name = name })))
+    here new_name low from (ltb-true _ _ two.0) after)
+
+pub make_keeps : (s : State) (at : ℕ) (d : Directory) (name : FileName) (mode ino : ℕ) (done : Done) → IsLaidOut s → map.get s.tree.nodes at ≡ Some (IsDirectory d)
+    → map.get d.entries name ≡ None → mode ≤ 4095 → 3 ≤ ino → make_as s at d name (new_file mode) ino ≡ Ok done → IsLaidOut done.state
+make_keeps s at d name mode ino done is there new_name low from h =
+    let here = kept_at s is at d there in
+    let Q : ℕ → Type 0 = λ k. IsKept k (blocks_at s.layout k) (IsDirectory d) → make_as s k d name (new_file mode) ino ≡ Ok done → IsLaidOut done.state in
+    subst Q (sym here.1) (λ kept made. in_root s is d name mode ino done kept new_name low from made) here h
+
+-- ---- the call
+
+bind_ok : {A B : Type 0} (m : Maybe A) (rest : A → Maybe B) (y : B) → (m >>= rest) ≡ Ok y → (x : A) × (m ≡ Ok x) × (rest x ≡ Ok y)
+bind_ok (Ok x) rest y h = (x, refl, h)
+bind_ok (Err why) rest y h = absurd cc
+
+unless_ok : {A : Type 0} (t : Bool) (why : Refusal) (rest : Maybe A) (y : A) → unless t why rest ≡ Ok y → (t ≡ true) × (rest ≡ Ok y)
+unless_ok true why rest y h = (refl, h)
+unless_ok false why rest y h = absurd cc
+
+need_ok : {A : Type 0} (o : Option A) (why : Refusal) (x : A) → need o why ≡ Ok x → o ≡ Some x
+need_ok None why x h = absurd cc
+need_ok (Some y) why x h = let e : y ≡ x = cc in ap Some e
+
+directory_ok : (node : Node) (d : Directory) → as_directory node ≡ Ok d → node ≡ IsDirectory d
+directory_ok (IsDirectory x) d h = let e : x ≡ d = cc in ap IsDirectory e
+directory_ok (IsFile f) d h = absurd cc
+
+none_is : {A : Type 0} (o : Option A) → is_none o ≡ true → o ≡ None
+none_is None h = refl
+none_is (Some x) h = absurd cc
