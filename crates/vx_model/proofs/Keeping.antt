@@ -19,9 +19,15 @@ use Rattle.vx_model.specs.State.{State, Done}
 use Rattle.vx_model.specs.Paths.{PathEnd, path_end}
 use Rattle.vx_model.specs.Walks.{root, walk, names_of, node_at, as_directory, directory_at}
 use Rattle.vx_model.specs.Making.{with_name, added, make_as, make_in, make_at, make_along, create}
-use Rattle.vx_model.specs.Reads.{name_to_inode, entries_from}
 use Rattle.vx_model.specs.LaidOut.{AreBlocks, IsKept, IsDirectoryNode, IsLaidOut, Makes}
-use Rattle.vx_model.proofs.Changing.{next_blocks, Within, state_with, entry, same_at, other_at, made, made_within}
+use Rattle.vx_layout.specs.Places.{Volume}
+use Rattle.vx_layout.specs.LogForms.{AfterImage}
+use Rattle.vx_model.specs.Images.{IsBatch, Stands, overlaid}
+use Rattle.vx_model.specs.Reads.{name_to_inode, entries_from, ImageReadsAs}
+use Rattle.vx_model.specs.Contents.{volume, parsed_of, entry_changes}
+use Rattle.vx_model.proofs.Standing.{batch_stands}
+use Rattle.vx_model.proofs.Reading.{state_reads}
+use Rattle.vx_model.proofs.Changing.{next_blocks, Within, state_with, same_at, other_at, made, made_within, make_changes, make_volume}
 
 -- ---- the directory's blocks
 
@@ -164,3 +170,70 @@ directory_ok (IsFile f) d h = absurd cc
 none_is : {A : Type 0} (o : Option A) → is_none o ≡ true → o ≡ None
 none_is None h = refl
 none_is (Some x) h = absurd cc
+
+-- the lowest unused number is unused, unless there is none
+lowest_by : (nodes : Nodes) (more from : ℕ) (o : Option Node) → map.get nodes from ≡ o
+    → (lowest_absent nodes more (from + 1) < from + 1 + more → map.get nodes (lowest_absent nodes more (from + 1)) ≡ None)
+    → cond (is_some o) (lowest_absent nodes more (from + 1)) from < from + suc more → map.get nodes (cond (is_some o) (lowest_absent nodes more (from + 1)) from) ≡ None
+lowest_by nodes more from None is next lt = is
+lowest_by nodes more from (Some node) is next lt = next (omega arith)
+
+lowest_free : (nodes : Nodes) (fuel from : ℕ) → lowest_absent nodes fuel from < from + fuel → map.get nodes (lowest_absent nodes fuel from) ≡ None
+lowest_free nodes zero from lt = absurd (omega arith)
+lowest_free nodes (suc more) from lt = lowest_by nodes more from (map.get nodes from) refl (lowest_free nodes more (from + 1)) lt
+
+lowest_low_by : (t : Bool) (x from : ℕ) → from + 1 ≤ x → from ≤ cond t x from
+lowest_low_by true x from h = omega arith
+lowest_low_by false x from h = omega arith
+
+lowest_low : (nodes : Nodes) (fuel from : ℕ) → from ≤ lowest_absent nodes fuel from
+lowest_low nodes zero from = omega arith
+lowest_low nodes (suc more) from = lowest_low_by (is_some (map.get nodes from)) (lowest_absent nodes more (from + 1)) from (lowest_low nodes more (from + 1))
+
+pub unused_low : (units : ℕ) (nodes : Nodes) → 3 ≤ lowest_unused units nodes
+unused_low units nodes = lowest_low nodes (128 * units) 3
+
+pub unused_free : (units : ℕ) (nodes : Nodes) → lowest_unused units nodes < 128 * units → map.get nodes (lowest_unused units nodes) ≡ None
+unused_free units nodes lt = lowest_free nodes (128 * units) 3 (omega arith)
+
+at_makes : (s : State) (name : FileName) (node : Node) (at : ℕ) (done : Done) → make_at s name node at ≡ Ok done → Makes s node done
+at_makes s name node at done h =
+    let found = bind_ok (directory_at s.tree.nodes at) (λ d. make_in s at d name node) done h in
+    let node_there = bind_ok (node_at s.tree.nodes at) as_directory found.0 found.1 in
+    let absent = unless_ok (is_none (map.get found.0.entries name)) _ (make_as s at found.0 name node (lowest_unused s.layout.units s.tree.nodes)) done found.2 in
+    record {
+      at = at;
+      directory = found.0;
+      name = name;
+      is_directory = need_ok (map.get s.tree.nodes at) _ node_there.0 node_there.1 ∙ ap Some (directory_ok node_there.0 found.0 node_there.2);
+      new_name = none_is (map.get found.0.entries name) absent.0;
+      made = absent.1;
+    }
+
+-- a create that is not refused made a file so
+pub create_makes : (s : State) (path : List ℕ) (mode : ℕ) (done : Done) → create s path mode ≡ Ok done → Makes s (new_file mode) done
+create_makes s path mode done h =
+    let names = bind_ok (names_of path) (make_along s (new_file mode)) done h in
+    let end = bind_ok (need (path_end names.0) _) (λ (e : PathEnd). walk s.tree.nodes root e.above >>= make_at s e.name (new_file mode)) done names.2 in
+    let at = bind_ok (walk s.tree.nodes root end.0.above) (make_at s end.0.name (new_file mode)) done end.2 in
+    at_makes s end.0.name (new_file mode) at.0 done at.2
+
+pub create_keeps : (s : State) (path : List ℕ) (mode : ℕ) (done : Done) → IsLaidOut s → mode ≤ 4095 → create s path mode ≡ Ok done → IsLaidOut done.state
+create_keeps s path mode done is low h =
+    let m = create_makes s path mode done h in
+    make_keeps s m.at m.directory m.name mode (lowest_unused s.layout.units s.tree.nodes) done is m.is_directory m.new_name low (unused_low s.layout.units s.tree.nodes) m.made
+
+-- an image of the state before reads as the tree after, once a right batch is laid over it
+pub made_reads : (s : State) (mode : ℕ) (done : Done) (batch : List AfterImage) (image : ℕ → List ℕ) → IsLaidOut s → mode ≤ 4095 → (m : Makes s (new_file mode) done)
+    → IsBatch (volume s.layout) (parsed_of done.state) (entry_changes s.layout m.at (record { ino = lowest_unused s.layout.units s.tree.nodes; name = m.name }) done.state.layout) batch
+    → Stands (volume s.layout) (parsed_of s) image → ImageReadsAs (volume s.layout) (overlaid batch image) done.state.tree
+made_reads s mode done batch image is low m right stood =
+    let ino : ℕ = lowest_unused s.layout.units s.tree.nodes in
+    let same = make_volume s m.at m.directory m.name (new_file mode) (lowest_unused s.layout.units s.tree.nodes) done m.made in
+    let changed = make_changes s m.at m.directory m.name (new_file mode) (lowest_unused s.layout.units s.tree.nodes) done m.made in
+    let after = batch_stands (volume s.layout) (parsed_of s) (parsed_of done.state)
+    (entry_changes s.layout m.at (record { ino = lowest_unused s.layout.units s.tree.nodes; name = m.name }) done.state.layout) batch image changed right stood in
+    subst (λ (v : Volume). ImageReadsAs v (overlaid batch image) done.state.tree) same
+    (state_reads done.state (overlaid batch image)
+    (make_keeps s m.at m.directory m.name mode (lowest_unused s.layout.units s.tree.nodes) done is m.is_directory m.new_name low (unused_low s.layout.units s.tree.nodes) m.made)
+    (subst (λ (v : Volume). Stands v (parsed_of done.state) (overlaid batch image)) (sym same) after))
