@@ -5,3 +5,4 @@ pub mod Changing
 pub mod Reading
 pub mod Formatting
 pub mod Keeping
+pub mod Entries
