@@ -54,6 +54,7 @@ module _ (log_blocks limit : ℕ) where
     blocks = λ n. subst (AreBlocks new.layout n) (sym (no_block n)) tt;
     has_root = subst (λ (o : Option Node). IfThere o IsDirectoryNode) (sym root_node) tt;
     units = lit< tt;
+    units_limit = lit≤ tt;
     log_blocks = low;
     limit = one;
     rest = refl;

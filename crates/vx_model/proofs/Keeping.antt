@@ -8,7 +8,7 @@ use Rattle.std.specs.FinMap as map
 use Rattle.std.proofs.lemmas.Bool.{cases_eq, ltb-true, leb-true}
 use Rattle.std.proofs.lemmas.List.{append-nil, map_push}
 use Rattle.vx_base.proofs.Maps.{at_key, at_other}
-use Rattle.vx_base.specs.Paths.{FileName}
+use Rattle.vx_base.specs.Paths.{FileName, is_name, split}
 use Rattle.vx_base.specs.declared.inode.DirEntry.{DirEntry}
 use Rattle.vx_base.specs.declared.refusal.Refusal.{Refusal}
 use Rattle.vx_model.specs.Outcome.{Maybe, unless, ◌>>=◌, need}
@@ -22,10 +22,12 @@ use Rattle.vx_model.specs.Making.{with_name, added, make_as, make_in, make_at, m
 use Rattle.vx_model.specs.LaidOut.{AreBlocks, IsKept, IsDirectoryNode, IsLaidOut, Makes}
 use Rattle.vx_layout.specs.Places.{Volume}
 use Rattle.vx_layout.specs.LogForms.{AfterImage}
+use Rattle.vx_layout.specs.Dirs.{IsEntry, IsDir}
 use Rattle.vx_model.specs.Images.{IsBatch, Stands, overlaid}
 use Rattle.vx_model.specs.Reads.{name_to_inode, entries_from, ImageReadsAs}
 use Rattle.vx_model.specs.Contents.{volume, parsed_of, entry_changes}
 use Rattle.vx_model.proofs.Standing.{batch_stands}
+use Rattle.vx_model.proofs.Entries.{push_fits, one_fits, split_names, end_is_name, short_name}
 use Rattle.vx_model.proofs.Reading.{state_reads}
 use Rattle.vx_model.proofs.Changing.{next_blocks, Within, state_with, same_at, other_at, made, made_within, make_changes, make_volume}
 
@@ -38,21 +40,21 @@ record Next (l : Layout) (e : DirEntry) (old new : List DirectoryBlock) : Type 0
   are : AreBlocks l root new
   names : names_of_blocks new ≡ names_of_blocks old ++ e ∷ []
 
-one_next : (l : Layout) (e : DirEntry) (d : DirectoryBlock) (t : Bool) → l.directory_limit ≤ 1 → d.block ≡ first_data_block l
+one_next : (l : Layout) (e : DirEntry) (d : DirectoryBlock) (t : Bool) → has_room d e ≡ t → l.directory_limit ≤ 1 → d.block ≡ first_data_block l → IsDir 1024 d.entries → IsEntry e
     → Within l (d ∷ []) (cond t (Some (record d { entries = d.entries ++ e ∷ [] } ∷ [])) None)
     → Next l e (d ∷ []) (next_blocks l e (d ∷ []) (cond t (Some (record d { entries = d.entries ++ e ∷ [] } ∷ [])) None))
-one_next l e d true one at within = record {
-  are = (refl, at, refl);
+one_next l e d true room one at is entry within = record {
+  are = (refl, at, push_fits d.entries e is entry room, refl);
   names = append-nil (d.entries ++ e ∷ []) ∙ ap (λ es. es ++ e ∷ []) (sym (append-nil d.entries));
 }
-one_next l e d false one at within = let two : 2 ≤ l.directory_limit = leb-true _ _ within in absurd (omega arith)
+one_next l e d false room one at is entry within = let two : 2 ≤ l.directory_limit = leb-true _ _ within in absurd (omega arith)
 
-next_is : (l : Layout) (e : DirEntry) (blocks : List DirectoryBlock) → l.directory_limit ≤ 1 → AreBlocks l root blocks
+next_is : (l : Layout) (e : DirEntry) (blocks : List DirectoryBlock) → l.directory_limit ≤ 1 → AreBlocks l root blocks → IsEntry e
     → Within l blocks (with_entry blocks e) → Next l e blocks (next_blocks l e blocks (with_entry blocks e))
-next_is l e [] one are within = record { are = (refl, refl, refl); names = refl }
-next_is l e (d ∷ ds) one are within =
-    subst (λ (rest : List DirectoryBlock). Within l (d ∷ rest) (with_entry (d ∷ rest) e) → Next l e (d ∷ rest) (next_blocks l e (d ∷ rest) (with_entry (d ∷ rest) e))) (sym are.2)
-    (one_next l e d (has_room d e) one are.1) within
+next_is l e [] one are entry within = record { are = (refl, refl, one_fits e entry, refl); names = refl }
+next_is l e (d ∷ ds) one are entry within =
+    subst (λ (rest : List DirectoryBlock). Within l (d ∷ rest) (with_entry (d ∷ rest) e) → Next l e (d ∷ rest) (next_blocks l e (d ∷ rest) (with_entry (d ∷ rest) e))) (sym are.3)
+    (one_next l e d (has_room d e) refl one are.1 are.2 entry) within
 
 -- an entry behind the others under a new name
 pushed : (es : List DirEntry) (e : DirEntry) → map.get (entries_from es) e.name ≡ None → entries_from (es ++ e ∷ []) ≡ map.insert (entries_from es) e.name e.ino
@@ -123,6 +125,7 @@ module _ (s : State) (is : IsLaidOut s) (d : Directory) (name : FileName) (mode 
       blocks = blocks_fine;
       has_root = subst (λ (o : Option Node). IfThere o IsDirectoryNode) (sym root_node) tt;
       units = is.units;
+      units_limit = is.units_limit;
       log_blocks = is.log_blocks;
       limit = is.limit;
       rest = ap (λ (t : Tree). record t { nodes = left.tree.nodes }) is.rest;
@@ -133,21 +136,23 @@ kept_at s is at d there =
     let fine = subst (λ (o : Option Node). IfSome o (λ node. IsKept at (blocks_at s.layout at) node × (2 ≤ at) × (at < 128 * s.layout.units))) there (is.nodes at) in fine.0
 
 in_root : (s : State) → IsLaidOut s → (d : Directory) (name : FileName) (mode ino : ℕ) (done : Done) → IsKept root (blocks_at s.layout root) (IsDirectory d)
-    → map.get d.entries name ≡ None → mode ≤ 4095 → 3 ≤ ino → make_as s root d name (new_file mode) ino ≡ Ok done → IsLaidOut done.state
-in_root s is d name mode ino done here new_name low from h =
-    let e : DirEntry = record { ino = ino; name = name } in
+    → is_name name ≡ true → map.get d.entries name ≡ None → mode ≤ 4095 → 3 ≤ ino → make_as s root d name (new_file mode) ino ≡ Ok done → IsLaidOut done.state
+in_root s is d name mode ino done here legal new_name low from h =
     let two = made s root d name (new_file mode) ino done h in
-    let after = next_is s.layout (record { ino = ino; name = name }) (blocks_at s.layout root) is.limit (is.blocks root) (made_within s root d name (new_file mode) ino done h) in
+    let to : ino < 128 * s.layout.units = ltb-true _ _ two.0 in
+    let limit : s.layout.units ≤ 64 = is.units_limit in
+    let entry : IsEntry (record { ino = ino; name = name }) = record { ino = omega arith; name = short_name name legal } in
+    let after = next_is s.layout (record { ino = ino; name = name }) (blocks_at s.layout root) is.limit (is.blocks root) entry (made_within s root d name (new_file mode) ino done h) in
     subst IsLaidOut (sym two.1)
     (left_laid s is d name mode ino (next_blocks s.layout (record { ino = ino; name = name }) (blocks_at s.layout root) (with_entry (blocks_at s.layout root) (record { ino = ino; name = name })))
-    here new_name low from (ltb-true _ _ two.0) after)
+    here new_name low from to after)
 
 pub make_keeps : (s : State) (at : ℕ) (d : Directory) (name : FileName) (mode ino : ℕ) (done : Done) → IsLaidOut s → map.get s.tree.nodes at ≡ Some (IsDirectory d)
-    → map.get d.entries name ≡ None → mode ≤ 4095 → 3 ≤ ino → make_as s at d name (new_file mode) ino ≡ Ok done → IsLaidOut done.state
-make_keeps s at d name mode ino done is there new_name low from h =
+    → is_name name ≡ true → map.get d.entries name ≡ None → mode ≤ 4095 → 3 ≤ ino → make_as s at d name (new_file mode) ino ≡ Ok done → IsLaidOut done.state
+make_keeps s at d name mode ino done is there legal new_name low from h =
     let here = kept_at s is at d there in
     let Q : ℕ → Type 0 = λ k. IsKept k (blocks_at s.layout k) (IsDirectory d) → make_as s k d name (new_file mode) ino ≡ Ok done → IsLaidOut done.state in
-    subst Q (sym here.1) (λ kept made. in_root s is d name mode ino done kept new_name low from made) here h
+    subst Q (sym here.1) (λ kept made. in_root s is d name mode ino done kept legal new_name low from made) here h
 
 -- ---- the call
 
@@ -196,8 +201,8 @@ unused_low units nodes = lowest_low nodes (128 * units) 3
 pub unused_free : (units : ℕ) (nodes : Nodes) → lowest_unused units nodes < 128 * units → map.get nodes (lowest_unused units nodes) ≡ None
 unused_free units nodes lt = lowest_free nodes (128 * units) 3 (omega arith)
 
-at_makes : (s : State) (name : FileName) (node : Node) (at : ℕ) (done : Done) → make_at s name node at ≡ Ok done → Makes s node done
-at_makes s name node at done h =
+at_makes : (s : State) (name : FileName) (node : Node) (at : ℕ) (done : Done) → is_name name ≡ true → make_at s name node at ≡ Ok done → Makes s node done
+at_makes s name node at done legal h =
     let found = bind_ok (directory_at s.tree.nodes at) (λ d. make_in s at d name node) done h in
     let node_there = bind_ok (node_at s.tree.nodes at) as_directory found.0 found.1 in
     let absent = unless_ok (is_none (map.get found.0.entries name)) _ (make_as s at found.0 name node (lowest_unused s.layout.units s.tree.nodes)) done found.2 in
@@ -206,6 +211,7 @@ at_makes s name node at done h =
       directory = found.0;
       name = name;
       is_directory = need_ok (map.get s.tree.nodes at) _ node_there.0 node_there.1 ∙ ap Some (directory_ok node_there.0 found.0 node_there.2);
+      legal = legal;
       new_name = none_is (map.get found.0.entries name) absent.0;
       made = absent.1;
     }
@@ -216,12 +222,12 @@ create_makes s path mode done h =
     let names = bind_ok (names_of path) (make_along s (new_file mode)) done h in
     let end = bind_ok (need (path_end names.0) _) (λ (e : PathEnd). walk s.tree.nodes root e.above >>= make_at s e.name (new_file mode)) done names.2 in
     let at = bind_ok (walk s.tree.nodes root end.0.above) (make_at s end.0.name (new_file mode)) done end.2 in
-    at_makes s end.0.name (new_file mode) at.0 done at.2
+    at_makes s end.0.name (new_file mode) at.0 done (end_is_name names.0 end.0 (need_ok (path_end names.0) _ end.0 end.1) (split_names path names.0 (need_ok (split path) _ names.0 names.1))) at.2
 
 pub create_keeps : (s : State) (path : List ℕ) (mode : ℕ) (done : Done) → IsLaidOut s → mode ≤ 4095 → create s path mode ≡ Ok done → IsLaidOut done.state
 create_keeps s path mode done is low h =
     let m = create_makes s path mode done h in
-    make_keeps s m.at m.directory m.name mode (lowest_unused s.layout.units s.tree.nodes) done is m.is_directory m.new_name low (unused_low s.layout.units s.tree.nodes) m.made
+    make_keeps s m.at m.directory m.name mode (lowest_unused s.layout.units s.tree.nodes) done is m.is_directory m.legal m.new_name low (unused_low s.layout.units s.tree.nodes) m.made
 
 -- an image of the state before reads as the tree after, once a right batch is laid over it
 pub made_reads : (s : State) (mode : ℕ) (done : Done) (batch : List AfterImage) (image : ℕ → List ℕ) → IsLaidOut s → mode ≤ 4095 → (m : Makes s (new_file mode) done)
@@ -235,5 +241,5 @@ made_reads s mode done batch image is low m right stood =
     (entry_changes s.layout m.at (record { ino = lowest_unused s.layout.units s.tree.nodes; name = m.name }) done.state.layout) batch image changed right stood in
     subst (λ (v : Volume). ImageReadsAs v (overlaid batch image) done.state.tree) same
     (state_reads done.state (overlaid batch image)
-    (make_keeps s m.at m.directory m.name mode (lowest_unused s.layout.units s.tree.nodes) done is m.is_directory m.new_name low (unused_low s.layout.units s.tree.nodes) m.made)
+    (make_keeps s m.at m.directory m.name mode (lowest_unused s.layout.units s.tree.nodes) done is m.is_directory m.legal m.new_name low (unused_low s.layout.units s.tree.nodes) m.made)
     (subst (λ (v : Volume). Stands v (parsed_of done.state) (overlaid batch image)) (sym same) after))

@@ -1,8 +1,9 @@
 -- States of which an image reads as the tree, and the step that keeps them so.
-use Rattle.std.specs.Prelude.{◌≡◌, ℕ, ◌+◌, ◌*◌, ◌<◌, ◌≤◌, List, [], ◌∷◌, Option, Some, None, Ok, IfSome}
+use Rattle.std.specs.Prelude.{◌≡◌, ℕ, true, ◌+◌, ◌*◌, ◌<◌, ◌≤◌, List, [], ◌∷◌, Option, Some, None, Ok, IfSome}
 use Rattle.std.specs.List.{flat_map}
 use Rattle.std.specs.FinMap as map
-use Rattle.vx_base.specs.Paths.{FileName}
+use Rattle.vx_base.specs.Paths.{FileName, is_name}
+use Rattle.vx_layout.specs.Dirs.{IsDir}
 use Rattle.vx_model.specs.Legal.{IfThere}
 use Rattle.vx_model.specs.Tree.{Node, Directory, IsFile, IsDirectory, lowest_unused, new_file, tree_of_nodes}
 use Rattle.vx_model.specs.Layout.{DirectoryBlock, Layout, first_data_block, blocks_at}
@@ -14,7 +15,7 @@ use Rattle.vx_model.specs.Reads.{entries_from}
 -- what the blocks of the directory at n are yet: the root's are none, or the first data block, and no other directory has any
 abbrev pub AreBlocks : Layout → ℕ → List DirectoryBlock → Type 0
 AreBlocks l n [] = Unit {0}
-AreBlocks l n (d ∷ ds) = (n ≡ root) × (d.block ≡ first_data_block l) × (ds ≡ [])
+AreBlocks l n (d ∷ ds) = (n ≡ root) × (d.block ≡ first_data_block l) × IsDir 1024 d.entries × (ds ≡ [])
 
 -- a node that is kept whole in its inode and these blocks: an empty file, or the root
 abbrev pub IsKept : ℕ → List DirectoryBlock → Node → Type 0
@@ -31,6 +32,7 @@ pub record IsLaidOut (s : State) : Type 0 where
   pub blocks : (n : ℕ) → AreBlocks s.layout n (blocks_at s.layout n)
   pub has_root : IfThere (map.get s.tree.nodes root) IsDirectoryNode
   pub units : 0 < s.layout.units
+  pub units_limit : s.layout.units ≤ 64
   pub log_blocks : s.layout.log_blocks ≤ 2048
   pub limit : s.layout.directory_limit ≤ 1
   pub rest : s.tree ≡ tree_of_nodes s.tree.nodes
@@ -41,5 +43,6 @@ pub record Makes (s : State) (node : Node) (done : Done) : Type 0 where
   pub directory : Directory
   pub name : FileName
   pub is_directory : map.get s.tree.nodes at ≡ Some (IsDirectory directory)
+  pub legal : is_name name ≡ true
   pub new_name : map.get directory.entries name ≡ None
   pub made : make_as s at directory name node (lowest_unused s.layout.units s.tree.nodes) ≡ Ok done

@@ -11,6 +11,7 @@ use Rattle.vx_base.specs.declared.inode.DirEntry.{DirEntry}
 use Rattle.vx_base.specs.Paths.{FileName}
 use Rattle.vx_layout.specs.Places.{Volume, per_block, block_sector, is_data}
 use Rattle.vx_layout.specs.Inodes.{IsInode, layout1}
+use Rattle.vx_layout.specs.Dirs.{IsDir}
 use Rattle.vx_model.specs.Legal.{IfThere}
 use Rattle.vx_model.specs.Tree.{Node, IsFile, IsDirectory, Entries, Tree, tree_of_nodes}
 use Rattle.vx_model.specs.Images.{Parsed, Stands, among}
@@ -58,11 +59,12 @@ pub record IsTree (p : Parsed) (data_at : ℕ → List ℕ) (t : Tree) : Type 0 
   pub nodes : (n : ℕ) → map.get t.nodes n ≡ option_and_then (node_of p data_at) (p.inodes n)
   pub rest : t ≡ tree_of_nodes t.nodes
 
--- each block is claimed once, by the inode that has it
+-- inodes and entries have a spelling, and each data block in use is claimed once, by the inode that has it
 pub record Valid (v : Volume) (p : Parsed) : Type 0 where
   pub inodes : (n : ℕ) → IfSome (p.inodes n) (λ i. IsInode layout1 i × (2 ≤ n) × (n < 128 * v.units))
   pub claims : (b n : ℕ) → (p.claims b ≡ Some n) ↔ IfThere (p.inodes n) (λ i. among (blocks_of i) b ≡ true)
   pub data_blocks : (b : ℕ) → IfSome (p.claims b) (λ _. IsTrue (is_data v b))
+  pub entries : (b : ℕ) → IfSome (p.blocks b) (IsDir v.block)
 
 -- the sectors say a tree; the log's records are laid over them before
 pub record ImageReadsAs (v : Volume) (image : ℕ → List ℕ) (t : Tree) : Type 0 where
