@@ -6,3 +6,4 @@ pub mod Reading
 pub mod Formatting
 pub mod Keeping
 pub mod Entries
+pub mod Batches

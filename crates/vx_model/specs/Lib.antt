@@ -13,3 +13,4 @@ pub mod Images
 pub mod Reads
 pub mod Contents
 pub mod LaidOut
+pub mod Shapes
