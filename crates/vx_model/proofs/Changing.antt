@@ -1,6 +1,6 @@
 -- Making a name changes its own places alone.
-use Rattle.std.proofs.Common.{◌≡◌, ◌≢◌, ℕ, zero, suc, ◌+◌, ◌*◌, ◌<◌, ◌≤◌, Bool, true, false, cond, List, [], ◌∷◌, ◌++◌, map, length, Option, Some, None, ◌-◌, Result, Ok, Err, refl, sym, ap, subst, ◌∙◌, arith, inl, inr}
-use Rattle.std.specs.Prelude.{◌||◌, ◌==◌, nat_lt, nat_le, is_some, if◌then◌else◌}
+use Rattle.std.proofs.Common.{◌≡◌, ◌≢◌, ℕ, zero, suc, ◌+◌, ◌*◌, ◌<◌, Bool, true, false, cond, List, [], ◌∷◌, ◌++◌, length, Option, Some, None, ◌-◌, Ok, refl, sym, ap, subst, ◌∙◌, arith, inl, inr}
+use Rattle.std.specs.Prelude.{◌||◌, ◌==◌, nat_lt, nat_le, is_some}
 use Rattle.std.specs.Option.{option_map, unwrap_or}
 use Rattle.std.specs.FinMap as map
 use Rattle.std.proofs.lemmas.Bool.{eq-eqb, ne_eqb, cases_eq, true≢false}
@@ -11,12 +11,12 @@ use Rattle.vx_base.specs.declared.reply.Reply.TheVariants as say
 use Rattle.vx_base.specs.declared.inode.DirEntry.{DirEntry}
 use Rattle.vx_layout.specs.Places.{unit_block, first_data, per_block}
 use Rattle.vx_model.specs.Outcome.{Maybe, unless, ◌>>=◌}
-use Rattle.vx_model.specs.Tree.{Tree, Node, Nodes, Directory}
-use Rattle.vx_model.specs.Layout.{DirectoryBlock, Layout, Directories, first_data_block, has_room, behind, with_entry, blocks_at, with_blocks, with_new_block, filled_or_new, add_entry}
+use Rattle.vx_model.specs.Tree.{Node, Directory}
+use Rattle.vx_model.specs.Layout.{DirectoryBlock, Layout, first_data_block, has_room, behind, with_entry, blocks_at, with_blocks, filled_or_new, add_entry}
 use Rattle.vx_model.specs.State.{State, Done}
 use Rattle.vx_model.specs.Making.{with_name, added, make_as}
-use Rattle.vx_model.specs.Images.{Parsed, used_in, Changes, among, SameBut}
-use Rattle.vx_model.specs.Contents.{volume, block_numbers, inode_for, inode_value, Claim, claim_among, or_claim, claim_below, claim_of, parsed_of, units_changed, entry_changes}
+use Rattle.vx_model.specs.Images.{among, SameBut}
+use Rattle.vx_model.specs.Contents.{volume, block_numbers, inode_for, Claim, claim_among, or_claim, claim_below, claim_of, parsed_of, units_changed, entry_changes}
 use Rattle.vx_model.proofs.Standing.{neither}
 
 -- ---- lists of blocks

@@ -1,10 +1,10 @@
 -- The entries of a directory block have a spelling, as long as each name is short and there was room for it.
-use Rattle.std.proofs.Common.{◌≡◌, ℕ, zero, suc, ◌+◌, ◌*◌, ◌<◌, ◌≤◌, ◌^◌, Bool, true, false, List, [], ◌∷◌, ◌++◌, length, Option, Some, None, Ok, refl, sym, ap, subst, ◌∙◌, arith, length-append}
+use Rattle.std.proofs.Common.{◌≡◌, ℕ, ◌+◌, ◌<◌, ◌≤◌, Bool, true, false, List, [], ◌∷◌, ◌++◌, length, Option, Some, None, refl, subst, arith, length-append}
 use Rattle.std.specs.Prelude.{◌&&◌, nat_le, nat_eq, cond}
-use Rattle.std.specs.List.{flat_map, list_all, slice_split, sum_by, AllByRecursion}
+use Rattle.std.specs.List.{list_all, slice_split, AllByRecursion}
 use Rattle.std.proofs.lemmas.Bool.{leb-true, and_parts}
 use Rattle.std.proofs.lemmas.List.Sums.{sum_by-append}
-use Rattle.vx_base.specs.Paths.{FileName, is_name, if_names, components_after, components_of, split}
+use Rattle.vx_base.specs.Paths.{FileName, is_name, components_after, components_of, split}
 use Rattle.vx_base.specs.declared.inode.DirEntry.{DirEntry}
 use Rattle.vx_layout.specs.Dirs.{entry_bytes, entries_bytes, IsEntry, IsDir}
 use Rattle.vx_model.specs.Layout.{entry_size, used_by}

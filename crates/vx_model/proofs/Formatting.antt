@@ -1,27 +1,24 @@
 -- A new image reads as the empty root.
-use Rattle.std.proofs.Common.{◌≡◌, ◌≢◌, ℕ, zero, suc, ◌+◌, ◌-◌, ◌*◌, ◌/◌, ◌%◌, ◌<◌, ◌≤◌, Bool, true, false, cond, List, [], ◌∷◌, ◌++◌, length, replicate, Option, Some, None, refl, sym, ap, subst, ◌∙◌, arith, inl, inr, lit<, lit≤}
-use Rattle.std.specs.Prelude.{◌||◌, ◌==◌, nat_lt, nat_le, is_some, IsTrue, IfSome}
+use Rattle.std.proofs.Common.{◌≡◌, ◌≢◌, ℕ, ◌+◌, ◌-◌, ◌*◌, ◌/◌, ◌%◌, ◌<◌, ◌≤◌, Bool, true, false, cond, List, [], ◌++◌, replicate, Option, Some, None, refl, sym, ap, subst, ◌∙◌, arith, inl, inr, lit<, lit≤}
+use Rattle.std.specs.Prelude.{◌||◌, ◌==◌, nat_lt, nat_le, is_some, IfSome}
 use Rattle.std.specs.Option.{option_map, unwrap_or}
-use Rattle.std.specs.List.{flat_map}
 use Rattle.std.specs.Ordering.{nat_cmp}
 use Rattle.std.specs.FinMap as map
-use Rattle.std.proofs.lemmas.Bool.{cases_eq, eqb-true, eqb-false, ltb-true, ltb-false, leb-false}
+use Rattle.std.proofs.lemmas.Bool.{cases_eq, eqb-false, ltb-true, ltb-false, leb-false}
 use Rattle.vx_base.proofs.Maps.{at_key, at_other}
-use Rattle.vx_base.specs.declared.inode.InodeValue.{InodeValue}
-use Rattle.vx_base.specs.declared.inode.DirEntry.{DirEntry}
-use Rattle.vx_layout.specs.Places.{Volume, Place, outside, blank, bits, slots, part, per_block, unit_block, bitmap_sector, pair_sector, place_of, place_in_unit, IsVolume, IsPlaceOf, sector_part}
+use Rattle.vx_layout.specs.Places.{Volume, Place, outside, blank, bits, slots, part, per_block, unit_block, bitmap_sector, pair_sector, place_of, IsPlaceOf, sector_part}
 use Rattle.vx_layout.specs.Bits.{bits_bytes}
 use Rattle.vx_layout.specs.Inodes.{slot_bytes}
 use Rattle.vx_layout.specs.Dirs.{dir_bytes}
 use Rattle.vx_layout.proofs.Standing.{place_is}
 use Rattle.vx_model.specs.Legal.{IfThere}
-use Rattle.vx_model.specs.Tree.{Node, IsFile, IsDirectory, new_directory}
-use Rattle.vx_model.specs.Layout.{DirectoryBlock, Layout, blocks_at}
+use Rattle.vx_model.specs.Tree.{Node, new_directory}
+use Rattle.vx_model.specs.Layout.{DirectoryBlock, blocks_at}
 use Rattle.vx_model.specs.State.{State, fresh}
 use Rattle.vx_model.specs.Walks.{root}
 use Rattle.vx_model.specs.Images.{Parsed, used_in, content, zero_sector, Stands}
 use Rattle.vx_model.specs.Reads.{ImageReadsAs}
-use Rattle.vx_model.specs.Contents.{volume, inode_for, inode_value, Claim, claim_among, claim_of, parsed_of, fresh_root, IsFormatted}
+use Rattle.vx_model.specs.Contents.{volume, inode_for, Claim, claim_among, claim_of, parsed_of, fresh_root, IsFormatted}
 use Rattle.vx_model.specs.LaidOut.{AreBlocks, IsKept, IsDirectoryNode, IsLaidOut}
 use Rattle.vx_model.proofs.Standing.{sector_same}
 use Rattle.vx_model.proofs.Reading.{root_claim, state_reads}

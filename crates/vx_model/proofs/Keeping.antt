@@ -1,8 +1,7 @@
 -- What a create leaves is laid out as what it found.
-use Rattle.std.proofs.Common.{◌≡◌, ◌≢◌, ℕ, zero, suc, ◌+◌, ◌*◌, ◌<◌, ◌≤◌, Bool, true, false, cond, List, [], ◌∷◌, ◌++◌, map, length, Option, Some, None, Result, Ok, Err, refl, sym, ap, subst, ◌∙◌, arith, inl, inr, lit<, lit≤}
-use Rattle.std.specs.Prelude.{◌||◌, nat_lt, nat_le, is_none, is_some, IfSome}
+use Rattle.std.proofs.Common.{◌≡◌, ◌≢◌, ℕ, zero, suc, ◌+◌, ◌*◌, ◌<◌, ◌≤◌, Bool, true, false, cond, List, [], ◌∷◌, ◌++◌, map, Option, Some, None, Ok, Err, refl, sym, ap, subst, ◌∙◌, arith, inl, inr, lit≤}
+use Rattle.std.specs.Prelude.{is_none, is_some, IfSome}
 use Rattle.std.specs.List.{flat_map}
-use Rattle.std.specs.Ordering.{nat_cmp}
 use Rattle.std.specs.Cmp.Lexicographic.{nat_list_cmp_total}
 use Rattle.std.specs.FinMap as map
 use Rattle.std.proofs.lemmas.Bool.{cases_eq, ltb-true, leb-true}
@@ -13,12 +12,12 @@ use Rattle.vx_base.specs.declared.inode.DirEntry.{DirEntry}
 use Rattle.vx_base.specs.declared.refusal.Refusal.{Refusal}
 use Rattle.vx_model.specs.Outcome.{Maybe, unless, ◌>>=◌, need}
 use Rattle.vx_model.specs.Legal.{IfThere}
-use Rattle.vx_model.specs.Tree.{Tree, Nodes, Node, File, Directory, IsFile, IsDirectory, Entries, lowest_absent, lowest_unused, new_file, tree_of_nodes}
-use Rattle.vx_model.specs.Layout.{DirectoryBlock, Layout, first_data_block, has_room, behind, with_entry, blocks_at, with_blocks}
+use Rattle.vx_model.specs.Tree.{Tree, Nodes, Node, Directory, IsFile, IsDirectory, Entries, lowest_absent, lowest_unused, new_file}
+use Rattle.vx_model.specs.Layout.{DirectoryBlock, Layout, first_data_block, has_room, with_entry, blocks_at, with_blocks}
 use Rattle.vx_model.specs.State.{State, Done}
 use Rattle.vx_model.specs.Paths.{PathEnd, path_end}
 use Rattle.vx_model.specs.Walks.{root, walk, names_of, node_at, as_directory, directory_at}
-use Rattle.vx_model.specs.Making.{with_name, added, make_as, make_in, make_at, make_along, create}
+use Rattle.vx_model.specs.Making.{with_name, make_as, make_in, make_at, make_along, create}
 use Rattle.vx_model.specs.LaidOut.{AreBlocks, IsKept, IsDirectoryNode, IsLaidOut, Makes}
 use Rattle.vx_layout.specs.Places.{Volume}
 use Rattle.vx_layout.specs.LogForms.{AfterImage}

@@ -7,3 +7,4 @@ pub mod Formatting
 pub mod Keeping
 pub mod Entries
 pub mod Batches
+pub mod Determined

@@ -1,27 +1,25 @@
 -- An image of a state reads as the state's tree.
-use Rattle.std.proofs.Common.{◌≡◌, ◌≢◌, ◌↔◌, ℕ, zero, suc, ◌+◌, ◌*◌, ◌<◌, ◌≤◌, ◌^◌, Bool, true, false, cond, List, [], ◌∷◌, ◌++◌, map, length, Option, Some, None, refl, sym, ap, subst, ◌∙◌, arith, inl, inr, lit<, lit≤}
-use Rattle.std.specs.Prelude.{◌||◌, ◌&&◌, ◌==◌, nat_lt, nat_le, is_some, IsTrue, IfSome}
+use Rattle.std.proofs.Common.{◌≡◌, ◌≢◌, ℕ, zero, suc, ◌+◌, ◌*◌, ◌<◌, ◌≤◌, ◌^◌, Bool, true, false, cond, List, [], ◌∷◌, ◌++◌, Option, Some, None, refl, sym, ap, subst, ◌∙◌, arith, inl, inr, lit<, lit≤}
+use Rattle.std.specs.Prelude.{◌||◌, ◌&&◌, ◌==◌, nat_le, is_some, IsTrue, IfSome}
 use Rattle.std.specs.Option.{option_map, option_and_then, unwrap_or}
 use Rattle.std.specs.List.{flat_map}
 use Rattle.std.specs.FinMap as map
-use Rattle.std.proofs.lemmas.Bool.{eq-eqb, eqb-true, ne_eqb, cases_eq, cases_lt, true≢false, le-leb}
-use Rattle.std.proofs.lemmas.List.{append-nil}
-use Rattle.vx_base.specs.declared.kind.Kind.TheVariants.{Data}
-use Rattle.vx_base.specs.declared.inode.Extent.{Extent}
+use Rattle.std.proofs.lemmas.Bool.{eq-eqb, eqb-true, cases_eq, le-leb}
+use Rattle.vx_base.specs.declared.kind.FileKind.TheVariants as kind_of
 use Rattle.vx_base.specs.declared.inode.InodeValue.{InodeValue}
 use Rattle.vx_base.specs.declared.inode.DirEntry.{DirEntry}
-use Rattle.vx_layout.specs.Places.{Volume, unit_block, first_data, is_data}
-use Rattle.vx_layout.specs.Inodes.{IsInode, IsExtent, IsPlace, ArePlaces, layout1, inode_fits}
+use Rattle.vx_layout.specs.Places.{unit_block, is_data}
+use Rattle.vx_layout.specs.Inodes.{IsInode, layout1, inode_fits}
 use Rattle.vx_layout.specs.Dirs.{IsDir}
 use Rattle.vx_layout.proofs.Standing.{data_in_unit}
 use Rattle.vx_model.specs.Legal.{IfThere}
-use Rattle.vx_model.specs.Tree.{Tree, Node, IsFile, IsDirectory, File, Directory, new_file, tree_of_nodes}
+use Rattle.vx_model.specs.Tree.{Node, IsFile, IsDirectory, Directory, new_file}
 use Rattle.vx_model.specs.Layout.{DirectoryBlock, Layout, first_data_block, blocks_at}
 use Rattle.vx_model.specs.State.{State}
 use Rattle.vx_model.specs.Walks.{root}
 use Rattle.vx_model.specs.Images.{Parsed, among, Stands}
-use Rattle.vx_model.specs.Reads.{numbers, place_blocks, blocks_of, block_bytes, file_bytes, names_in, entries_from, node_by, node_of, IsTree, Valid, ImageReadsAs}
-use Rattle.vx_model.specs.Contents.{volume, one_block, first_extent, places, inode_for, inode_value, Claim, claim_among, or_claim, claim_below, claim_of, parsed_of}
+use Rattle.vx_model.specs.Reads.{blocks_of, block_bytes, file_bytes, names_in, entries_from, node_of, IsTree, HasEntries, Valid, ImageReadsAs}
+use Rattle.vx_model.specs.Contents.{volume, inode_for, inode_value, Claim, claim_among, or_claim, claim_below, claim_of, parsed_of}
 use Rattle.vx_model.specs.LaidOut.{AreBlocks, IsKept, IsDirectoryNode, IsLaidOut}
 
 -- ---- inodes have a spelling
@@ -218,12 +216,22 @@ claimed_entries l b [] is = tt
 claimed_entries l b (d ∷ ds) is =
     subst (λ (rest : List DirectoryBlock). IfSome (option_map entries_of (claim_among root b (d ∷ rest))) (IsDir 1024)) (sym is.3) (one_entries b d (b == d.block) is.2)
 
+some_of : {X : Type 0} (f : Claim → ℕ) (g : Claim → X) (o : Option Claim) (n : ℕ) → option_map f o ≡ Some n → is_some (option_map g o) ≡ true
+some_of f g None n h = absurd cc
+some_of f g (Some c) n h = refl
+
+entries_by : (s : State) → IsLaidOut s → (n : ℕ) (o : Option InodeValue) → inode_value s n ≡ o → IfSome o (λ i. i.inode.kind ≡ kind_of.Directory → HasEntries (parsed_of s) i)
+entries_by s is n None e = tt
+entries_by s is n (Some i) e = λ kind b h.
+    some_of ino_of entries_of (claim_of s.layout b) n (inode_claims s is b n (subst (λ (o : Option InodeValue). IfThere o (λ i. among (blocks_of i) b ≡ true)) (sym e) h))
+
 pub valid : (s : State) → IsLaidOut s → Valid (volume s.layout) (parsed_of s)
 valid s is = record {
   inodes = λ n. fits_by s is n (map.get s.tree.nodes n) (is.nodes n);
   claims = λ b n. (claimed_by_inode s is b n, inode_claims s is b n);
   data_blocks = λ b. subst (λ (o : Option Claim). IfSome (option_map ino_of o) (λ _. IsTrue (is_data (volume s.layout) b))) (sym (root_claim s is b)) (claimed_data s.layout b (blocks_at s.layout root) is.units (is.blocks root));
   entries = λ b. subst (λ (o : Option Claim). IfSome (option_map entries_of o) (IsDir 1024)) (sym (root_claim s is b)) (claimed_entries s.layout b (blocks_at s.layout root) (is.blocks root));
+  directories = λ n. entries_by s is n (inode_value s n) refl;
 }
 
 -- ---- the tree

@@ -1,5 +1,5 @@
 -- States of which an image reads as the tree, and the step that keeps them so.
-use Rattle.std.specs.Prelude.{◌≡◌, ℕ, true, ◌+◌, ◌*◌, ◌<◌, ◌≤◌, List, [], ◌∷◌, Option, Some, None, Ok, IfSome}
+use Rattle.std.specs.Prelude.{◌≡◌, ℕ, true, ◌*◌, ◌<◌, ◌≤◌, List, [], ◌∷◌, Some, None, Ok, IfSome}
 use Rattle.std.specs.List.{flat_map}
 use Rattle.std.specs.FinMap as map
 use Rattle.vx_base.specs.Paths.{FileName, is_name}
