@@ -1,6 +1,6 @@
 -- Making a name changes its own places alone.
-use Rattle.std.proofs.Common.{◌≡◌, ◌≢◌, ℕ, zero, suc, ◌+◌, ◌*◌, ◌<◌, ◌≤◌, Bool, true, false, cond, List, [], ◌∷◌, ◌++◌, map, length, Option, Some, None, ◌-◌, Result, Ok, Err, refl, sym, ap, subst, ◌∙◌, arith, inl, inr}
-use Rattle.std.specs.Prelude.{◌||◌, ◌==◌, nat_lt, nat_le, is_some, if◌then◌else◌}
+use Rattle.std.proofs.Common.{◌≡◌, ◌≢◌, ℕ, zero, suc, ◌+◌, ◌*◌, ◌<◌, Bool, true, false, cond, List, [], ◌∷◌, ◌++◌, length, Option, Some, None, ◌-◌, Ok, refl, sym, ap, subst, ◌∙◌, arith, inl, inr}
+use Rattle.std.specs.Prelude.{◌||◌, ◌==◌, nat_lt, nat_le, is_some}
 use Rattle.std.specs.Option.{option_map, unwrap_or}
 use Rattle.std.specs.FinMap as map
 use Rattle.std.proofs.lemmas.Bool.{eq-eqb, ne_eqb, cases_eq, true≢false}
@@ -11,12 +11,12 @@ use Rattle.vx_base.specs.declared.reply.Reply.TheVariants as say
 use Rattle.vx_base.specs.declared.inode.DirEntry.{DirEntry}
 use Rattle.vx_layout.specs.Places.{unit_block, first_data, per_block}
 use Rattle.vx_model.specs.Outcome.{Maybe, unless, ◌>>=◌}
-use Rattle.vx_model.specs.Tree.{Tree, Node, Nodes, Directory}
-use Rattle.vx_model.specs.Layout.{DirectoryBlock, Layout, Directories, first_data_block, has_room, behind, with_entry, blocks_at, with_blocks, with_new_block, filled_or_new, add_entry}
+use Rattle.vx_model.specs.Tree.{Node, Directory}
+use Rattle.vx_model.specs.Layout.{DirectoryBlock, Layout, first_data_block, has_room, behind, with_entry, blocks_at, with_blocks, filled_or_new, add_entry}
 use Rattle.vx_model.specs.State.{State, Done}
 use Rattle.vx_model.specs.Making.{with_name, added, make_as}
-use Rattle.vx_model.specs.Images.{Parsed, used_in, Changes, among, SameBut}
-use Rattle.vx_model.specs.Contents.{volume, block_numbers, inode_for, inode_value, Claim, claim_among, or_claim, claim_below, claim_of, parsed_of, units_changed, entry_changes}
+use Rattle.vx_model.specs.Images.{among, SameBut}
+use Rattle.vx_model.specs.Contents.{volume, block_numbers, inode_for, Claim, claim_among, or_claim, claim_below, claim_of, parsed_of, units_changed, entry_changes}
 use Rattle.vx_model.proofs.Standing.{neither}
 
 -- ---- lists of blocks
@@ -127,11 +127,21 @@ module _ (l : Layout) (at : ℕ) (blocks : List DirectoryBlock) where
 
 -- ---- a new name
 
+-- the blocks of a directory after a new entry, by what `with_entry` says of those before
+abbrev pub next_blocks : Layout → DirEntry → List DirectoryBlock → Option (List DirectoryBlock) → List DirectoryBlock
+next_blocks l e blocks (Some filled) = filled
+next_blocks l e blocks None = blocks ++ record { block = first_data_block l; entries = e ∷ [] } ∷ []
+
+-- a new block is within the limit
+abbrev pub Within : Layout → List DirectoryBlock → Option (List DirectoryBlock) → Type 0
+Within l blocks (Some filled) = Unit {0}
+Within l blocks None = nat_le (length blocks + 1) l.directory_limit ≡ true
+
 module _ (s : State) (at : ℕ) (d : Directory) (name : FileName) (node : Node) (ino : ℕ) where
-  abbrev state_with : Layout → State
+  abbrev pub state_with : Layout → State
   state_with layout = record { tree = added s.tree at d name ino node; layout = layout }
 
-  abbrev entry : DirEntry
+  abbrev pub entry : DirEntry
   entry = record { ino = ino; name = name }
 
   -- what the blocks of the directory have to keep
@@ -140,7 +150,7 @@ module _ (s : State) (at : ℕ) (d : Directory) (name : FileName) (node : Node) 
     used : (u j : ℕ) → j < 4096 → among units u ≡ false
         → among (block_numbers blocks) (unit_block (volume s.layout) u + j) ≡ among (block_numbers (blocks_at s.layout at)) (unit_block (volume s.layout) u + j)
 
-  nodes_other : (n : ℕ) → n ≢ at → n ≢ ino → map.get (added s.tree at d name ino node).nodes n ≡ map.get s.tree.nodes n
+  pub nodes_other : (n : ℕ) → n ≢ at → n ≢ ino → map.get (added s.tree at d name ino node).nodes n ≡ map.get s.tree.nodes n
   nodes_other n na ni = at_other (map.insert s.tree.nodes ino node) at (with_name d name ino) n na ∙ at_other s.tree.nodes ino node n ni
 
   same_but : (blocks : List DirectoryBlock) (units : List ℕ) → Keeps blocks units
@@ -197,31 +207,43 @@ module _ (s : State) (at : ℕ) (d : Directory) (name : FileName) (node : Node) 
       sym (ap (λ (x : Done). x.state) e)
   limited false done h = absurd cc
 
-  -- what is left, by whether a block had room
-  abbrev next_blocks : Option (List DirectoryBlock) → List DirectoryBlock
-  next_blocks (Some filled) = filled
-  next_blocks None = blocks_at s.layout at ++ new_block ∷ []
-
   left_by : (o : Option (List DirectoryBlock)) (done : Done) → (filled_or_new s.layout at (blocks_at s.layout at) entry o >>= finish) ≡ Ok done
-      → done.state ≡ state_with (with_blocks s.layout at (next_blocks o))
+      → done.state ≡ state_with (with_blocks s.layout at (next_blocks s.layout entry (blocks_at s.layout at) o))
   left_by (Some filled) done h =
       let e : ◌≡◌ {A = Done} (record { state = state_with (with_blocks s.layout at filled); reply = say.Made ino }) done = cc in
       sym (ap (λ (x : Done). x.state) e)
   left_by None done h = limited (nat_le (length (blocks_at s.layout at) + 1) s.layout.directory_limit) done h
 
-  keeps_by : (o : Option (List DirectoryBlock)) → with_entry (blocks_at s.layout at) entry ≡ o → Keeps (next_blocks o) (units_changed o)
+  keeps_by : (o : Option (List DirectoryBlock)) → with_entry (blocks_at s.layout at) entry ≡ o → Keeps (next_blocks s.layout entry (blocks_at s.layout at) o) (units_changed o)
   keeps_by (Some filled) is = filled_keeps filled is
   keeps_by None is = new_keeps
 
   room_by : (t : Bool) (done : Done)
       → unless t (no.NoInodes (128 * s.layout.units - 2)) (add_entry s.layout at entry >>= finish) ≡ Ok done
-      → (t ≡ true) × (done.state ≡ state_with (with_blocks s.layout at (next_blocks (with_entry (blocks_at s.layout at) entry))))
+      → (t ≡ true) × (done.state ≡ state_with (with_blocks s.layout at (next_blocks s.layout entry (blocks_at s.layout at) (with_entry (blocks_at s.layout at) entry))))
   room_by true done h = (refl, left_by (with_entry (blocks_at s.layout at) entry) done h)
   room_by false done h = absurd cc
 
+  within_new : (t : Bool) (done : Done)
+      → (unless t (no.TooBig (1024 * (length (blocks_at s.layout at) + 1))) (Ok (with_blocks s.layout at (blocks_at s.layout at ++ new_block ∷ []))) >>= finish) ≡ Ok done → t ≡ true
+  within_new true done h = refl
+  within_new false done h = absurd cc
+
+  within_by : (o : Option (List DirectoryBlock)) (done : Done) → (filled_or_new s.layout at (blocks_at s.layout at) entry o >>= finish) ≡ Ok done → Within s.layout (blocks_at s.layout at) o
+  within_by (Some filled) done h = tt
+  within_by None done h = within_new (nat_le (length (blocks_at s.layout at) + 1) s.layout.directory_limit) done h
+
+  within_room : (t : Bool) (done : Done) → unless t (no.NoInodes (128 * s.layout.units - 2)) (add_entry s.layout at entry >>= finish) ≡ Ok done
+      → Within s.layout (blocks_at s.layout at) (with_entry (blocks_at s.layout at) entry)
+  within_room true done h = within_by (with_entry (blocks_at s.layout at) entry) done h
+  within_room false done h = absurd cc
+
+  pub made_within : (done : Done) → make_as s at d name node ino ≡ Ok done → Within s.layout (blocks_at s.layout at) (with_entry (blocks_at s.layout at) entry)
+  made_within done h = within_room (nat_lt ino (128 * s.layout.units)) done h
+
   -- what making a name leaves
   pub made : (done : Done) → make_as s at d name node ino ≡ Ok done
-      → (nat_lt ino (128 * s.layout.units) ≡ true) × (done.state ≡ state_with (with_blocks s.layout at (next_blocks (with_entry (blocks_at s.layout at) entry))))
+      → (nat_lt ino (128 * s.layout.units) ≡ true) × (done.state ≡ state_with (with_blocks s.layout at (next_blocks s.layout entry (blocks_at s.layout at) (with_entry (blocks_at s.layout at) entry))))
   made done h = room_by (nat_lt ino (128 * s.layout.units)) done h
 
   pub make_changes : (done : Done) → make_as s at d name node ino ≡ Ok done
@@ -229,7 +251,7 @@ module _ (s : State) (at : ℕ) (d : Directory) (name : FileName) (node : Node) 
   make_changes done h =
       let o : Option (List DirectoryBlock) = with_entry (blocks_at s.layout at) entry in
       subst (λ (new : State). Law new (units_changed (with_entry (blocks_at s.layout at) entry))) (sym (made done h).1)
-      (law_with (next_blocks (with_entry (blocks_at s.layout at) entry)) (units_changed (with_entry (blocks_at s.layout at) entry)) (keeps_by (with_entry (blocks_at s.layout at) entry) refl))
+      (law_with (next_blocks s.layout entry (blocks_at s.layout at) (with_entry (blocks_at s.layout at) entry)) (units_changed (with_entry (blocks_at s.layout at) entry)) (keeps_by (with_entry (blocks_at s.layout at) entry) refl))
 
   pub make_volume : (done : Done) → make_as s at d name node ino ≡ Ok done → volume done.state.layout ≡ volume s.layout
   make_volume done h = ap (λ (x : State). volume x.layout) (made done h).1

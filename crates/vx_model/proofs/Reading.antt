@@ -1,26 +1,26 @@
 -- An image of a state reads as the state's tree.
-use Rattle.std.proofs.Common.{◌≡◌, ◌≢◌, ◌↔◌, ℕ, zero, suc, ◌+◌, ◌*◌, ◌<◌, ◌≤◌, ◌^◌, Bool, true, false, cond, List, [], ◌∷◌, ◌++◌, map, length, Option, Some, None, refl, sym, ap, subst, ◌∙◌, arith, inl, inr, lit<, lit≤}
-use Rattle.std.specs.Prelude.{◌||◌, ◌&&◌, ◌==◌, nat_lt, nat_le, is_some, IsTrue, IfSome}
+use Rattle.std.proofs.Common.{◌≡◌, ◌≢◌, ℕ, zero, suc, ◌+◌, ◌*◌, ◌<◌, ◌≤◌, ◌^◌, Bool, true, false, cond, List, [], ◌∷◌, ◌++◌, Option, Some, None, refl, sym, ap, subst, ◌∙◌, arith, inl, inr, lit<, lit≤}
+use Rattle.std.specs.Prelude.{◌||◌, ◌&&◌, ◌==◌, nat_le, is_some, IsTrue, IfSome}
 use Rattle.std.specs.Option.{option_map, option_and_then, unwrap_or}
 use Rattle.std.specs.List.{flat_map}
 use Rattle.std.specs.FinMap as map
-use Rattle.std.proofs.lemmas.Bool.{eq-eqb, eqb-true, ne_eqb, cases_eq, cases_lt, true≢false, le-leb}
-use Rattle.std.proofs.lemmas.List.{append-nil}
-use Rattle.vx_base.specs.declared.kind.Kind.TheVariants.{Data}
-use Rattle.vx_base.specs.declared.inode.Extent.{Extent}
+use Rattle.std.proofs.lemmas.Bool.{eq-eqb, eqb-true, cases_eq, le-leb}
+use Rattle.vx_base.specs.declared.kind.FileKind.TheVariants as kind_of
 use Rattle.vx_base.specs.declared.inode.InodeValue.{InodeValue}
 use Rattle.vx_base.specs.declared.inode.DirEntry.{DirEntry}
-use Rattle.vx_layout.specs.Places.{Volume, unit_block, first_data, is_data}
-use Rattle.vx_layout.specs.Inodes.{IsInode, IsExtent, IsPlace, ArePlaces, layout1, inode_fits}
+use Rattle.vx_layout.specs.Places.{unit_block, is_data}
+use Rattle.vx_layout.specs.Inodes.{IsInode, layout1, inode_fits}
+use Rattle.vx_layout.specs.Dirs.{IsDir}
 use Rattle.vx_layout.proofs.Standing.{data_in_unit}
 use Rattle.vx_model.specs.Legal.{IfThere}
-use Rattle.vx_model.specs.Tree.{Tree, Node, IsFile, IsDirectory, File, Directory, new_file, tree_of_nodes}
+use Rattle.vx_model.specs.Tree.{Node, IsFile, IsDirectory, Directory, new_file}
 use Rattle.vx_model.specs.Layout.{DirectoryBlock, Layout, first_data_block, blocks_at}
 use Rattle.vx_model.specs.State.{State}
 use Rattle.vx_model.specs.Walks.{root}
 use Rattle.vx_model.specs.Images.{Parsed, among, Stands}
-use Rattle.vx_model.specs.Reads.{numbers, place_blocks, blocks_of, block_bytes, file_bytes, names_in, entries_from, node_by, node_of, IsTree, Valid, ImageReadsAs}
-use Rattle.vx_model.specs.Contents.{volume, one_block, first_extent, places, inode_for, inode_value, Claim, claim_among, or_claim, claim_below, claim_of, parsed_of, AreBlocks, IsKept, IsDirectoryNode, IsLaidOut}
+use Rattle.vx_model.specs.Reads.{blocks_of, block_bytes, file_bytes, names_in, entries_from, node_of, IsTree, HasEntries, Valid, ImageReadsAs}
+use Rattle.vx_model.specs.Contents.{volume, inode_for, inode_value, Claim, claim_among, or_claim, claim_below, claim_of, parsed_of}
+use Rattle.vx_model.specs.LaidOut.{AreBlocks, IsKept, IsDirectoryNode, IsLaidOut}
 
 -- ---- inodes have a spelling
 
@@ -83,7 +83,7 @@ directory_fits l n [] d low is h = empty_fits d h
 directory_fits l n (b ∷ bs) d low is h =
     let P : List DirectoryBlock → Type 0 = λ rest. IsInode layout1 (inode_for (b ∷ rest) (IsDirectory d)) in
     let at : b.block ≡ 2 + l.log_blocks + 33 = is.1 in
-    subst P (sym is.2) (filled_fits d b h (omega arith))
+    subst P (sym is.3) (filled_fits d b h (omega arith))
 
 node_fits : (l : Layout) (n : ℕ) (blocks : List DirectoryBlock) (node : Node) → l.log_blocks ≤ 2048 → AreBlocks l n blocks → IsKept n blocks node → IsInode layout1 (inode_for blocks node)
 node_fits l n blocks (IsFile f) low is h = subst (λ (x : Node). IsInode layout1 (inode_for blocks x)) (sym h.1) (file_fits blocks f.mode h.0)
@@ -129,7 +129,7 @@ root_below l b none (suc n) lt =
       | inr ne ↦ ap (λ ds. or_claim (claim_among n b ds) (claim_below l b n)) (none n ne) ∙ root_below l b none n (omega arith)
     ]
 
-root_claim : (s : State) → IsLaidOut s → (b : ℕ) → claim_of s.layout b ≡ claim_among root b (blocks_at s.layout root)
+pub root_claim : (s : State) → IsLaidOut s → (b : ℕ) → claim_of s.layout b ≡ claim_among root b (blocks_at s.layout root)
 root_claim s is b =
     let some : 0 < s.layout.units = is.units in
     root_below s.layout b (λ n ne. no_blocks s.layout n (blocks_at s.layout n) ne (is.blocks n)) (128 * s.layout.units) (omega arith)
@@ -151,7 +151,7 @@ claims_to : (l : Layout) (n b : ℕ) (bs : List DirectoryBlock) (o : Option Node
 claims_to l n b [] o is there h = absurd cc
 claims_to l n b (d ∷ ds) o is there h =
     let Q : List DirectoryBlock → Type 0 = λ rest. option_map ino_of (claim_among root b (d ∷ rest)) ≡ Some n → (n ≡ root) × IfThere (option_map (inode_for (d ∷ rest)) o) (λ i. among (blocks_of i) b ≡ true) in
-    subst Q (sym is.2) (λ k. let two = one_to n b d (b == d.block) refl k in (two.0, root_has b d o there two.1)) h
+    subst Q (sym is.3) (λ k. let two = one_to n b d (b == d.block) refl k in (two.0, root_has b d o there two.1)) h
 
 none_has : (b : ℕ) (o : Option Node) → IfThere (option_map (inode_for []) o) (λ i. among (blocks_of i) b ≡ true) → ⊥
 none_has b None h = h
@@ -172,7 +172,7 @@ claims_from : (l : Layout) (b : ℕ) (bs : List DirectoryBlock) (o : Option Node
 claims_from l b [] o is h = absurd (none_has b o h)
 claims_from l b (d ∷ ds) o is h =
     let Q : List DirectoryBlock → Type 0 = λ rest. IfThere (option_map (inode_for (d ∷ rest)) o) (λ i. among (blocks_of i) b ≡ true) → option_map ino_of (claim_among root b (d ∷ rest)) ≡ Some root in
-    subst Q (sym is.2) (λ k. one_from b d (b == d.block) (one_has b d o k)) h
+    subst Q (sym is.3) (λ k. one_from b d (b == d.block) (one_has b d o k)) h
 
 abbrev HasBlock : State → ℕ → ℕ → Type 0
 HasBlock s b n = IfThere (inode_value s n) (λ i. among (blocks_of i) b ≡ true)
@@ -205,13 +205,33 @@ one_data l b d false some at is = tt
 claimed_data : (l : Layout) (b : ℕ) (bs : List DirectoryBlock) → 0 < l.units → AreBlocks l root bs → IfSome (option_map ino_of (claim_among root b bs)) (λ _. IsTrue (is_data (volume l) b))
 claimed_data l b [] some is = tt
 claimed_data l b (d ∷ ds) some is =
-    subst (λ (rest : List DirectoryBlock). IfSome (option_map ino_of (claim_among root b (d ∷ rest))) (λ _. IsTrue (is_data (volume l) b))) (sym is.2) (one_data l b d (b == d.block) some is.1 refl)
+    subst (λ (rest : List DirectoryBlock). IfSome (option_map ino_of (claim_among root b (d ∷ rest))) (λ _. IsTrue (is_data (volume l) b))) (sym is.3) (one_data l b d (b == d.block) some is.1 refl)
+
+one_entries : (b : ℕ) (d : DirectoryBlock) (t : Bool) → IsDir 1024 d.entries → IfSome (option_map entries_of (cond t (Some (record { ino = root; entries = d.entries })) None)) (IsDir 1024)
+one_entries b d true is = is
+one_entries b d false is = tt
+
+claimed_entries : (l : Layout) (b : ℕ) (bs : List DirectoryBlock) → AreBlocks l root bs → IfSome (option_map entries_of (claim_among root b bs)) (IsDir 1024)
+claimed_entries l b [] is = tt
+claimed_entries l b (d ∷ ds) is =
+    subst (λ (rest : List DirectoryBlock). IfSome (option_map entries_of (claim_among root b (d ∷ rest))) (IsDir 1024)) (sym is.3) (one_entries b d (b == d.block) is.2)
+
+some_of : {X : Type 0} (f : Claim → ℕ) (g : Claim → X) (o : Option Claim) (n : ℕ) → option_map f o ≡ Some n → is_some (option_map g o) ≡ true
+some_of f g None n h = absurd cc
+some_of f g (Some c) n h = refl
+
+entries_by : (s : State) → IsLaidOut s → (n : ℕ) (o : Option InodeValue) → inode_value s n ≡ o → IfSome o (λ i. i.inode.kind ≡ kind_of.Directory → HasEntries (parsed_of s) i)
+entries_by s is n None e = tt
+entries_by s is n (Some i) e = λ kind b h.
+    some_of ino_of entries_of (claim_of s.layout b) n (inode_claims s is b n (subst (λ (o : Option InodeValue). IfThere o (λ i. among (blocks_of i) b ≡ true)) (sym e) h))
 
 pub valid : (s : State) → IsLaidOut s → Valid (volume s.layout) (parsed_of s)
 valid s is = record {
   inodes = λ n. fits_by s is n (map.get s.tree.nodes n) (is.nodes n);
   claims = λ b n. (claimed_by_inode s is b n, inode_claims s is b n);
   data_blocks = λ b. subst (λ (o : Option Claim). IfSome (option_map ino_of o) (λ _. IsTrue (is_data (volume s.layout) b))) (sym (root_claim s is b)) (claimed_data s.layout b (blocks_at s.layout root) is.units (is.blocks root));
+  entries = λ b. subst (λ (o : Option Claim). IfSome (option_map entries_of o) (IsDir 1024)) (sym (root_claim s is b)) (claimed_entries s.layout b (blocks_at s.layout root) (is.blocks root));
+  directories = λ n. entries_by s is n (inode_value s n) refl;
 }
 
 -- ---- the tree
@@ -234,7 +254,7 @@ names_read : (s : State) → IsLaidOut s → (x : Directory) (bs : List Director
 names_read s is x [] at are = refl
 names_read s is x (d ∷ ds) at are =
     let Q : List DirectoryBlock → Type 0 = λ rest. blocks_at s.layout root ≡ d ∷ rest → names_in (parsed_of s) (blocks_of (inode_for (d ∷ rest) (IsDirectory x))) ≡ flat_map (λ (b : DirectoryBlock). b.entries) (d ∷ rest) in
-    subst Q (sym are.2) (λ here. ap (λ es. es ++ []) (block_read s is d here)) at
+    subst Q (sym are.3) (λ here. ap (λ es. es ++ []) (block_read s is d here)) at
 
 directory_read : (s : State) → IsLaidOut s → (data_at : ℕ → List ℕ) (n : ℕ) (x : Directory) → IsKept n (blocks_at s.layout n) (IsDirectory x)
     → Some (IsDirectory x) ≡ node_of (parsed_of s) data_at (inode_for (blocks_at s.layout n) (IsDirectory x))

@@ -1,6 +1,6 @@
 -- What is not touched keeps its content, and a batch that is right carries an image on.
-use Rattle.std.proofs.Common.{◌≡◌, ℕ, zero, suc, ◌+◌, ◌*◌, ◌<◌, ◌≤◌, Bool, true, false, cond, List, [], ◌∷◌, ◌++◌, Option, Some, None, refl, sym, ap, subst, ◌∙◌, arith}
-use Rattle.std.specs.Prelude.{◌||◌, ◌==◌, IfSome, IsTrue, is_some, if◌then◌else◌}
+use Rattle.std.proofs.Common.{◌≡◌, ℕ, zero, suc, ◌+◌, ◌*◌, ◌<◌, Bool, true, false, cond, List, [], ◌∷◌, ◌++◌, Option, Some, None, refl, sym, ap, subst, ◌∙◌, arith}
+use Rattle.std.specs.Prelude.{◌||◌, ◌==◌, IfSome, IsTrue, is_some}
 use Rattle.std.specs.Option.{option_map, unwrap_or}
 use Rattle.std.specs.List.{AllByRecursion}
 use Rattle.std.proofs.lemmas.Bool.{eqb-true}
@@ -8,7 +8,7 @@ use Rattle.vx_layout.specs.Places.{Volume, Place, outside, blank, bits, slots, p
 use Rattle.vx_layout.specs.Bits.{bit_value, bit_byte, bits_from, bits_bytes}
 use Rattle.vx_layout.specs.Inodes.{slot_bytes}
 use Rattle.vx_layout.specs.Dirs.{dir_bytes}
-use Rattle.vx_layout.specs.LogForms.{AfterImage, overlay, overlay_all, LogState, ReadsAs}
+use Rattle.vx_layout.specs.LogForms.{AfterImage, overlay}
 use Rattle.vx_model.specs.Images.{Parsed, used_in, content, content_at, Stands, is_metadata, contents, Changes, among, touches, SameBut, sectors_in, IsBatch, overlaid}
 
 pub neither : (a b : Bool) → (a || b) ≡ false → (a ≡ false) × (b ≡ false)

@@ -1,7 +1,6 @@
 -- What an image of a state says.
-use Rattle.std.specs.Prelude.{◌≡◌, ◌≢◌, ℕ, zero, suc, ◌+◌, ◌*◌, ◌<◌, ◌≤◌, Bool, true, false, ◌==◌, nat_lt, if◌then◌else◌, List, [], ◌∷◌, ◌++◌, map, length, replicate, Option, Some, None, IfSome}
+use Rattle.std.specs.Prelude.{◌≡◌, ◌≢◌, ℕ, zero, suc, ◌+◌, ◌*◌, ◌<◌, ◌==◌, nat_lt, if◌then◌else◌, List, [], ◌∷◌, ◌++◌, map, length, replicate, Option, Some, None}
 use Rattle.std.specs.Option.{option_map}
-use Rattle.std.specs.List.{flat_map}
 use Rattle.std.specs.FinMap as map
 use Rattle.vx_base.specs.declared.kind.FileKind.TheVariants.{File, Directory}
 use Rattle.vx_base.specs.declared.kind.Kind.TheVariants.{Data}
@@ -11,13 +10,10 @@ use Rattle.vx_base.specs.declared.inode.DirEntry.{DirEntry}
 use Rattle.vx_layout.specs.Places.{Volume, bitmap_sector, pair_sector}
 use Rattle.vx_layout.specs.Bits.{bits_bytes}
 use Rattle.vx_layout.specs.Inodes.{slot_bytes}
-use Rattle.vx_model.specs.Legal.{IfThere}
-use Rattle.vx_model.specs.Tree.{Node, IsFile, IsDirectory, no_attrs, new_file, new_directory, tree_of_nodes}
-use Rattle.vx_model.specs.Layout.{DirectoryBlock, Layout, first_data_block, blocks_at, with_entry}
+use Rattle.vx_model.specs.Tree.{Node, IsFile, IsDirectory, no_attrs, new_directory}
+use Rattle.vx_model.specs.Layout.{DirectoryBlock, Layout, blocks_at, with_entry}
 use Rattle.vx_model.specs.State.{State}
-use Rattle.vx_model.specs.Walks.{root}
 use Rattle.vx_model.specs.Images.{Parsed, Changes, zero_sector}
-use Rattle.vx_model.specs.Reads.{entries_from}
 
 -- the units stand behind the superblock, the log's head and the log
 abbrev pub volume : Layout → Volume
@@ -118,29 +114,3 @@ entry_changes old at e new = record {
   blocks = block_numbers (blocks_at new at);
   units = units_changed (with_entry (blocks_at old at) e);
 }
-
--- ---- states that have an image
-
--- what the blocks of the directory at n are yet: the root's are none, or the first data block, and no other directory has any
-abbrev pub AreBlocks : Layout → ℕ → List DirectoryBlock → Type 0
-AreBlocks l n [] = Unit {0}
-AreBlocks l n (d ∷ ds) = (n ≡ root) × (d.block ≡ first_data_block l) × (ds ≡ [])
-
--- a node that is kept whole in its inode and these blocks: an empty file, or the root
-abbrev pub IsKept : ℕ → List DirectoryBlock → Node → Type 0
-IsKept n blocks (IsFile f) = (f.mode ≤ 4095) × (IsFile f ≡ new_file f.mode)
-IsKept n blocks (IsDirectory d) = (d.mode ≤ 4095) × (n ≡ root) × (d.entries ≡ entries_from (flat_map (λ (b : DirectoryBlock). b.entries) blocks))
-
-abbrev pub IsDirectoryNode : Node → Type 0
-IsDirectoryNode (IsFile f) = ⊥
-IsDirectoryNode (IsDirectory d) = Unit {0}
-
--- a state that files are made in from a new file system on, and nothing else is done in
-pub record IsLaidOut (s : State) : Type 0 where
-  pub nodes : (n : ℕ) → IfSome (map.get s.tree.nodes n) (λ node. IsKept n (blocks_at s.layout n) node × (2 ≤ n) × (n < 128 * s.layout.units))
-  pub blocks : (n : ℕ) → AreBlocks s.layout n (blocks_at s.layout n)
-  pub has_root : IfThere (map.get s.tree.nodes root) IsDirectoryNode
-  pub units : 0 < s.layout.units
-  pub log_blocks : s.layout.log_blocks ≤ 2048
-  pub limit : s.layout.directory_limit ≤ 1
-  pub rest : s.tree ≡ tree_of_nodes s.tree.nodes

@@ -1,10 +1,10 @@
 -- What the metadata sectors of a volume hold. What an image says determines each of them by one function.
-use Rattle.std.specs.Prelude.{◌≡◌, ℕ, ◌+◌, ◌*◌, ◌<◌, Bool, true, false, ◌||◌, ◌==◌, nat_lt, List, [], ◌∷◌, ◌++◌, replicate, Option, Some, None, is_some, IfSome}
+use Rattle.std.specs.Prelude.{◌≡◌, ℕ, ◌+◌, ◌*◌, ◌<◌, Bool, true, false, ◌||◌, ◌==◌, nat_lt, List, [], ◌∷◌, ◌++◌, replicate, Option, Some, None, is_some, IsTrue, IfSome}
 use Rattle.std.specs.Option.{option_map, unwrap_or}
 use Rattle.std.specs.List.{list_any, AllByRecursion}
 use Rattle.vx_base.specs.declared.inode.InodeValue.{InodeValue}
 use Rattle.vx_base.specs.declared.inode.DirEntry.{DirEntry}
-use Rattle.vx_layout.specs.Places.{Volume, Place, outside, blank, bits, slots, part, per_block, unit_block, first_data, place_of, sector_part}
+use Rattle.vx_layout.specs.Places.{Volume, Place, outside, blank, bits, slots, part, per_block, unit_block, block_sector, bitmap_sector, inode_sector, first_data, is_data, place_of, sector_part}
 use Rattle.vx_layout.specs.Bits.{bits_bytes}
 use Rattle.vx_layout.specs.Inodes.{slot_bytes}
 use Rattle.vx_layout.specs.Dirs.{dir_bytes}
@@ -81,6 +81,12 @@ sectors_in (e ∷ es) s = e.0 == s || sectors_in es s
 pub record IsBatch (v : Volume) (new : Parsed) (c : Changes) (batch : List AfterImage) : Type 0 where
   pub right : AllByRecursion (λ e. content_at v new e.0 ≡ Some e.1) batch
   pub whole : (s : ℕ) → touches c (place_of v s) ≡ true → IfSome (content_at v new s) (λ _. sectors_in batch s ≡ true)
+
+-- the batch has the sectors of the things that may have changed
+pub record HasSectors (v : Volume) (c : Changes) (batch : List AfterImage) : Type 0 where
+  pub inodes : (n : ℕ) → among c.inodes n ≡ true → n < 128 * v.units → sectors_in batch (inode_sector v n) ≡ true
+  pub blocks : (b i : ℕ) → among c.blocks b ≡ true → IsTrue (is_data v b) → i < per_block v → sectors_in batch (block_sector (per_block v) b + i) ≡ true
+  pub units : (u : ℕ) → among c.units u ≡ true → u < v.units → sectors_in batch (bitmap_sector v u) ≡ true
 
 -- the image with the batch laid over it
 abbrev pub overlaid : List AfterImage → (ℕ → List ℕ) → ℕ → List ℕ

@@ -12,3 +12,5 @@ pub mod Legal
 pub mod Images
 pub mod Reads
 pub mod Contents
+pub mod LaidOut
+pub mod Shapes

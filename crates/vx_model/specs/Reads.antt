@@ -1,5 +1,5 @@
 -- An image reads as a tree.
-use Rattle.std.specs.Prelude.{◌≡◌, ◌↔◌, ℕ, zero, suc, ◌+◌, ◌*◌, ◌<◌, ◌≤◌, Bool, true, false, ◌==◌, IsTrue, if◌then◌else◌, List, [], ◌∷◌, ◌++◌, map, take, Option, Some, None, IfSome}
+use Rattle.std.specs.Prelude.{◌≡◌, ◌↔◌, ℕ, zero, suc, ◌+◌, ◌*◌, ◌<◌, ◌≤◌, true, ◌==◌, IsTrue, if◌then◌else◌, List, [], ◌∷◌, map, take, Option, Some, None, is_some, IfSome}
 use Rattle.std.specs.Option.{option_and_then, unwrap_or}
 use Rattle.std.specs.List.{flat_map}
 use Rattle.std.specs.FinMap as map
@@ -10,7 +10,8 @@ use Rattle.vx_base.specs.declared.inode.InodeValue.{InodeValue}
 use Rattle.vx_base.specs.declared.inode.DirEntry.{DirEntry}
 use Rattle.vx_base.specs.Paths.{FileName}
 use Rattle.vx_layout.specs.Places.{Volume, per_block, block_sector, is_data}
-use Rattle.vx_layout.specs.Inodes.{IsInode, layout1}
+use Rattle.vx_layout.specs.Inodes.{IsInode, inode_bytes, layout1}
+use Rattle.vx_layout.specs.Dirs.{IsDir, dir_bytes}
 use Rattle.vx_model.specs.Legal.{IfThere}
 use Rattle.vx_model.specs.Tree.{Node, IsFile, IsDirectory, Entries, Tree, tree_of_nodes}
 use Rattle.vx_model.specs.Images.{Parsed, Stands, among}
@@ -58,11 +59,18 @@ pub record IsTree (p : Parsed) (data_at : ℕ → List ℕ) (t : Tree) : Type 0 
   pub nodes : (n : ℕ) → map.get t.nodes n ≡ option_and_then (node_of p data_at) (p.inodes n)
   pub rest : t ≡ tree_of_nodes t.nodes
 
--- each block is claimed once, by the inode that has it
+-- what stands in each of the inode's blocks is said
+abbrev pub HasEntries : Parsed → InodeValue → Type 0
+HasEntries p i = (b : ℕ) → among (blocks_of i) b ≡ true → is_some (p.blocks b) ≡ true
+
+-- Inodes and entries have a spelling, each data block in use is claimed once, by the inode that has it, and the blocks of
+-- directories say their entries. That the names and the numbers of names agree isn't asked for yet.
 pub record Valid (v : Volume) (p : Parsed) : Type 0 where
   pub inodes : (n : ℕ) → IfSome (p.inodes n) (λ i. IsInode layout1 i × (2 ≤ n) × (n < 128 * v.units))
   pub claims : (b n : ℕ) → (p.claims b ≡ Some n) ↔ IfThere (p.inodes n) (λ i. among (blocks_of i) b ≡ true)
   pub data_blocks : (b : ℕ) → IfSome (p.claims b) (λ _. IsTrue (is_data v b))
+  pub entries : (b : ℕ) → IfSome (p.blocks b) (IsDir v.block)
+  pub directories : (n : ℕ) → IfSome (p.inodes n) (λ i. i.inode.kind ≡ Directory → HasEntries p i)
 
 -- the sectors say a tree; the log's records are laid over them before
 pub record ImageReadsAs (v : Volume) (image : ℕ → List ℕ) (t : Tree) : Type 0 where
@@ -70,3 +78,8 @@ pub record ImageReadsAs (v : Volume) (image : ℕ → List ℕ) (t : Tree) : Typ
   pub valid : Valid v parsed
   pub stands : Stands v parsed image
   pub tree : IsTree parsed (block_bytes v image) t
+
+-- an inode and a directory block have one spelling each
+pub record SpelledOnce (v : Volume) : Type 0 where
+  pub inodes : (i w : InodeValue) → IsInode layout1 i → IsInode layout1 w → inode_bytes i ≡ inode_bytes w → i ≡ w
+  pub entries : (xs ys : List DirEntry) → IsDir v.block xs → IsDir v.block ys → dir_bytes v.block xs ≡ dir_bytes v.block ys → xs ≡ ys

@@ -1,8 +1,13 @@
 //! What an image says, from one state to the next.
-ghost use Rattle.std.specs.Prelude.{◌≡◌, ℕ, true, false, List, IfSome, IsTrue};
-ghost use Rattle.vx_layout.specs.Places.{Volume, Place, place_of};
+ghost use Rattle.std.specs.Prelude.{◌≡◌, ℕ, ◌+◌, ◌*◌, ◌/◌, ◌<◌, true, false, List, ◌++◌, Some, IfSome, IsTrue};
+ghost use Rattle.std.specs.Option.{option_map};
+ghost use Rattle.std.specs.List.{AllByRecursion};
+ghost use Rattle.vx_layout.specs.Places.{Volume, Place, per_block, block_sector, bitmap_sector, inode_sector, is_data, place_of, IsVolume, sector_part};
+ghost use Rattle.vx_layout.specs.Bits.{bits_bytes};
+ghost use Rattle.vx_layout.specs.Inodes.{slot_bytes};
+ghost use Rattle.vx_layout.specs.Dirs.{dir_bytes};
 ghost use Rattle.vx_layout.specs.LogForms.{AfterImage};
-ghost use Rattle.vx_model.specs.Images.{Parsed, content, content_at, Stands, is_metadata, contents, Changes, touches, SameBut, IsBatch, overlaid};
+ghost use Rattle.vx_model.specs.Images.{Parsed, content, content_at, Stands, is_metadata, contents, Changes, touches, SameBut, IsBatch, HasSectors, overlaid, used_in};
 
 /// What does not change keeps its content, and so it is enough to write the sectors that the changes touch.
 pub fn step_stands()
@@ -22,4 +27,19 @@ pub fn batch_stands()
 pub fn metadata()
     ensures stands { (v : Volume) (p : Parsed) (image : ℕ → List ℕ) → ((s : ℕ) → IsTrue (is_metadata v p s) → image s ≡ contents v p s) → Stands v p image }
     ensures holds { (v : Volume) (p : Parsed) (image : ℕ → List ℕ) → Stands v p image → (s : ℕ) → IsTrue (is_metadata v p s) → image s ≡ contents v p s }
+{}
+
+/// What the sectors of each thing hold.
+pub fn sector_contents()
+    ensures bitmap { (v : Volume) (p : Parsed) (u : ℕ) → IsVolume v → u < v.units → content_at v p (bitmap_sector v u) ≡ Some (bits_bytes (used_in v p u)) }
+    ensures inodes { (v : Volume) (p : Parsed) (n : ℕ) → IsVolume v → n < 128 * v.units
+        → content_at v p (inode_sector v n) ≡ Some (slot_bytes (p.inodes (2 * (n / 2))) ++ slot_bytes (p.inodes (2 * (n / 2) + 1))) }
+    ensures parts { (v : Volume) (p : Parsed) (b i : ℕ) → IsVolume v → IsTrue (is_data v b) → i < per_block v
+        → content_at v p (block_sector (per_block v) b + i) ≡ option_map (λ es. sector_part i (dir_bytes v.block es)) (p.blocks b) }
+{}
+
+/// A batch is whole where it has the sectors of the things that changed.
+pub fn whole_batch()
+    ensures { (v : Volume) (new : Parsed) (c : Changes) (batch : List AfterImage) → IsVolume v → AllByRecursion (λ e. content_at v new e.0 ≡ Some e.1) batch
+        → HasSectors v c batch → IsBatch v new c batch }
 {}

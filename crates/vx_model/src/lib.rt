@@ -2,4 +2,5 @@
 #![tactic(auto)]
 
 pub mod images;
+pub mod reads;
 pub mod states;

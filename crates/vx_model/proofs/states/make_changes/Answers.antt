@@ -1,4 +1,3 @@
-use Rattle.vx_model.specs.Images.{overlaid}
 use Rattle.vx_model.specs.Contents.{volume, parsed_of, entry_changes}
 use Rattle.vx_model.proofs.Standing.{batch_stands}
 use Rattle.vx_model.proofs.Changing as laws

@@ -1,0 +1,5 @@
+use Rattle.vx_model.proofs.Determined as laws
+use Rattle.vx_model.proofs.reads.reads_once.Goals as goal
+
+pub returns : goal.returns
+returns c = laws.reads_once
