@@ -1,5 +1,5 @@
 -- What is not touched keeps its content, and a batch that is right carries an image on.
-use Rattle.std.proofs.Common.{◌≡◌, ℕ, zero, suc, ◌+◌, ◌*◌, ◌<◌, Bool, true, false, cond, List, [], ◌∷◌, ◌++◌, Option, Some, None, refl, sym, ap, subst, ◌∙◌, arith}
+use Rattle.std.proofs.Common.{◌≡◌, ◌≢◌, ℕ, zero, suc, ◌+◌, ◌*◌, ◌<◌, Bool, true, false, cond, List, [], ◌∷◌, ◌++◌, Option, Some, None, refl, sym, ap, subst, ◌∙◌, arith, inl, inr, ◌⊎◌}
 use Rattle.std.specs.Prelude.{◌||◌, ◌==◌, IfSome, IsTrue, is_some}
 use Rattle.std.specs.Option.{option_map, unwrap_or}
 use Rattle.std.specs.List.{AllByRecursion}
@@ -8,8 +8,8 @@ use Rattle.vx_layout.specs.Places.{Volume, Place, outside, blank, bits, slots, p
 use Rattle.vx_layout.specs.Bits.{bit_value, bit_byte, bits_from, bits_bytes}
 use Rattle.vx_layout.specs.Inodes.{slot_bytes}
 use Rattle.vx_layout.specs.Dirs.{dir_bytes}
-use Rattle.vx_layout.specs.LogForms.{AfterImage, overlay}
-use Rattle.vx_model.specs.Images.{Parsed, used_in, content, content_at, Stands, is_metadata, contents, Changes, among, touches, SameBut, sectors_in, IsBatch, overlaid}
+use Rattle.vx_layout.specs.LogForms.{AfterImage, overlay, overlay_all, LogState, ReadsAs}
+use Rattle.vx_model.specs.Images.{Parsed, used_in, content, content_at, Stands, is_metadata, contents, Changes, among, touches, SameBut, sectors_in, IsBatch, overlaid, Says}
 
 pub neither : (a b : Bool) → (a || b) ≡ false → (a ≡ false) × (b ≡ false)
 neither true b h = absurd cc
@@ -145,3 +145,72 @@ known (Some y) x h t = h
 
 pub stands_metadata : (v : Volume) (p : Parsed) (image : ℕ → List ℕ) → Stands v p image → (s : ℕ) → IsTrue (is_metadata v p s) → image s ≡ contents v p s
 stands_metadata v p image is s t = known (content_at v p s) (image s) (is s) t
+
+-- the batch as the log's records carry it
+decided_by : (e : AfterImage) (es : List AfterImage) (s : ℕ) (x y : List ℕ) (b : Bool) → (sectors_in es s ≡ true → overlay es s x ≡ overlay es s y) → (b || sectors_in es s) ≡ true
+    → overlay es s (cond b e.1 x) ≡ overlay es s (cond b e.1 y)
+decided_by e es s x y true more h = refl
+decided_by e es s x y false more h = more h
+
+decided : (batch : List AfterImage) (s : ℕ) (x y : List ℕ) → sectors_in batch s ≡ true → overlay batch s x ≡ overlay batch s y
+decided [] s x y h = absurd cc
+decided (e ∷ es) s x y h = decided_by e es s x y (e.0 == s) (decided es s x y) h
+
+own : (o : Option (List ℕ)) → IfSome o (λ bytes. unwrap_or o [] ≡ bytes)
+own None = tt
+own (Some x) = refl
+
+pub batch_contents : (v : Volume) (old new : Parsed) (c : Changes) (batch : List AfterImage) → SameBut v old new c → IsBatch v new c batch
+    → (s : ℕ) → IsTrue (is_metadata v new s) → overlay batch s (contents v old s) ≡ contents v new s
+batch_contents v old new c batch same is =
+    stands_metadata v new (overlaid batch (contents v old)) (batch_stands v old new c batch (contents v old) same is (λ s. own (content_at v old s)))
+
+not_missed : (o : Option (List ℕ)) → IsTrue (is_some o) → IfSome o (λ _. false ≡ true) → ⊥
+not_missed None t h = absurd cc
+not_missed (Some x) t h = absurd cc
+
+uncovered : (v : Volume) (old new : Parsed) (c : Changes) (batch : List AfterImage) → SameBut v old new c → IsBatch v new c batch
+    → (s : ℕ) → IsTrue (is_metadata v new s) → sectors_in batch s ≡ false → (t : Bool) → touches c (place_of v s) ≡ t → IsTrue (is_metadata v old s)
+uncovered v old new c batch same is s there none true t =
+    absurd (not_missed (content_at v new s) there (subst (λ b. IfSome (content_at v new s) (λ _. b ≡ true)) none (is.whole s t)))
+uncovered v old new c batch same is s there none false t = subst (λ (o : Option (List ℕ)). IsTrue (is_some o)) (same_content v old new c same (place_of v s) t) there
+
+abbrev Covered : Volume → Parsed → List AfterImage → ℕ → Type 0
+Covered v old batch s = IsTrue (is_metadata v old s) ⊎ ((x y : List ℕ) → overlay batch s x ≡ overlay batch s y)
+
+covered_by : (v : Volume) (old new : Parsed) (c : Changes) (batch : List AfterImage) → SameBut v old new c → IsBatch v new c batch
+    → (s : ℕ) → IsTrue (is_metadata v new s) → (b : Bool) → sectors_in batch s ≡ b → Covered v old batch s
+covered_by v old new c batch same is s there true h = inr (λ x y. decided batch s x y h)
+covered_by v old new c batch same is s there false h = inl (uncovered v old new c batch same is s there h _ refl)
+
+pub covered : (v : Volume) (old new : Parsed) (c : Changes) (batch : List AfterImage) → SameBut v old new c → IsBatch v new c batch
+    → (s : ℕ) → IsTrue (is_metadata v new s) → IsTrue (is_metadata v old s) ⊎ ((x y : List ℕ) → overlay batch s x ≡ overlay batch s y)
+covered v old new c batch same is s there = covered_by v old new c batch same is s there _ refl
+
+pub log_stands : (n : ℕ) (v : Volume) (p : Parsed) (r : LogState) (image : ℕ → List ℕ) → Says v p r → ReadsAs n r image → Stands v p (λ s. overlay_all r.records s (image s))
+log_stands n v p r image says reads =
+    metadata_stands v p (λ s. overlay_all r.records s (image s)) (λ s there. reads.metadata s (says.sectors s there) ∙ says.bytes s there)
+
+says_by : (v : Volume) (old new : Parsed) (c : Changes) (batch : List AfterImage) (r : LogState) → Says v old r → SameBut v old new c → IsBatch v new c batch
+    → (s : ℕ) → IsTrue (is_metadata v new s) → Covered v old batch s → overlay batch s (r.contents s) ≡ contents v new s
+says_by v old new c batch r says same is s there (inl was) = ap (overlay batch s) (says.bytes s was) ∙ batch_contents v old new c batch same is s there
+says_by v old new c batch r says same is s there (inr any) = any (r.contents s) (contents v old s) ∙ batch_contents v old new c batch same is s there
+
+pub says_on : (v : Volume) (old new : Parsed) (c : Changes) (batch : List AfterImage) (r next : LogState) → Says v old r → SameBut v old new c → IsBatch v new c batch
+    → ((s : ℕ) → IsTrue (is_metadata v new s) → IsTrue (next.is_metadata s)) → ((s : ℕ) → next.contents s ≡ overlay batch s (r.contents s)) → Says v new next
+says_on v old new c batch r next says same is metadata held = record {
+  sectors = metadata;
+  bytes = λ s there. held s ∙ says_by v old new c batch r says same is s there (covered v old new c batch same is s there);
+}
+
+-- ---- metadata stands within the units
+
+nothing_outside : (v : Volume) (p : Parsed) (q : Place) → IsTrue (is_some (content v p q)) → q ≢ outside
+nothing_outside v p outside h = absurd cc
+nothing_outside v p blank h = λ e. cc
+nothing_outside v p (bits u) h = λ e. cc
+nothing_outside v p (slots k) h = λ e. cc
+nothing_outside v p (part b i) h = λ e. cc
+
+pub metadata_inside : (v : Volume) (p : Parsed) (s : ℕ) → IsTrue (is_metadata v p s) → place_of v s ≢ outside
+metadata_inside v p s h = nothing_outside v p (place_of v s) h

@@ -27,7 +27,7 @@ block_numbers blocks = map (λ (d : DirectoryBlock). d.block) blocks
 abbrev pub one_block : DirectoryBlock → Extent
 one_block d = record { page = 0; start = d.block; len = 1; kind = Data }
 
--- a directory has one block at most yet
+-- a directory has one block at most so far
 abbrev pub first_extent : List DirectoryBlock → Option Extent
 first_extent [] = None
 first_extent (d ∷ ds) = Some (one_block d)
@@ -36,7 +36,7 @@ first_extent (d ∷ ds) = Some (one_block d)
 abbrev pub places : Option Extent → List (Option Extent)
 places e = e ∷ None ∷ None ∷ None ∷ None ∷ None ∷ []
 
--- the inode of a node with these directory blocks; a file has no block yet
+-- the inode of a node with these directory blocks; a file has no block so far
 abbrev pub inode_for : List DirectoryBlock → Node → InodeValue
 inode_for blocks (IsFile f) = record {
   inode = record { kind = File; mode = f.mode; nlink = f.nlink; size = length f.bytes; attrs = f.attrs };

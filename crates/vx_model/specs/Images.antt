@@ -8,7 +8,7 @@ use Rattle.vx_layout.specs.Places.{Volume, Place, outside, blank, bits, slots, p
 use Rattle.vx_layout.specs.Bits.{bits_bytes}
 use Rattle.vx_layout.specs.Inodes.{slot_bytes}
 use Rattle.vx_layout.specs.Dirs.{dir_bytes}
-use Rattle.vx_layout.specs.LogForms.{AfterImage, overlay}
+use Rattle.vx_layout.specs.LogForms.{AfterImage, overlay, LogState}
 
 -- Exactly what an image says, by number: the inodes in use, the entries of the directory blocks, and which inode has each
 -- data block in use. These are functions and not maps, so that the model's state says each in a line, whatever it is kept in;
@@ -46,6 +46,11 @@ is_metadata v p s = is_some (content_at v p s)
 
 abbrev pub contents : Volume → Parsed → ℕ → List ℕ
 contents v p s = unwrap_or (content_at v p s) []
+
+-- the log stands for what is said, and may stand for other sectors too
+pub record Says (v : Volume) (p : Parsed) (r : LogState) : Type 0 where
+  pub sectors : (s : ℕ) → IsTrue (is_metadata v p s) → IsTrue (r.is_metadata s)
+  pub bytes : (s : ℕ) → IsTrue (is_metadata v p s) → r.contents s ≡ contents v p s
 
 -- ---- what changes
 

@@ -12,12 +12,12 @@ use Rattle.vx_model.specs.Walks.{root}
 use Rattle.vx_model.specs.Making.{make_as}
 use Rattle.vx_model.specs.Reads.{entries_from}
 
--- what the blocks of the directory at n are yet: the root's are none, or the first data block, and no other directory has any
+-- the blocks of directory n: the root has none or the first data block, and no other directory has any so far
 abbrev pub AreBlocks : Layout → ℕ → List DirectoryBlock → Type 0
 AreBlocks l n [] = Unit {0}
 AreBlocks l n (d ∷ ds) = (n ≡ root) × (d.block ≡ first_data_block l) × IsDir 1024 d.entries × (ds ≡ [])
 
--- a node that is kept whole in its inode and these blocks: an empty file, or the root
+-- a node that its inode and these blocks say whole: an empty file, or the root
 abbrev pub IsKept : ℕ → List DirectoryBlock → Node → Type 0
 IsKept n blocks (IsFile f) = (f.mode ≤ 4095) × (IsFile f ≡ new_file f.mode)
 IsKept n blocks (IsDirectory d) = (d.mode ≤ 4095) × (n ≡ root) × (d.entries ≡ entries_from (flat_map (λ (b : DirectoryBlock). b.entries) blocks))
@@ -26,7 +26,7 @@ abbrev pub IsDirectoryNode : Node → Type 0
 IsDirectoryNode (IsFile f) = ⊥
 IsDirectoryNode (IsDirectory d) = Unit {0}
 
--- a state that files are made in from a new file system on, and nothing else is done in
+-- the states that a new file system comes to by files that are made in its root
 pub record IsLaidOut (s : State) : Type 0 where
   pub nodes : (n : ℕ) → IfSome (map.get s.tree.nodes n) (λ node. IsKept n (blocks_at s.layout n) node × (2 ≤ n) × (n < 128 * s.layout.units))
   pub blocks : (n : ℕ) → AreBlocks s.layout n (blocks_at s.layout n)

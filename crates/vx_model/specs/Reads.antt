@@ -25,7 +25,7 @@ abbrev pub place_blocks : Option Extent → List ℕ
 place_blocks None = []
 place_blocks (Some e) = numbers e.start e.len
 
--- the blocks of an inode, in page order; map blocks are not read yet
+-- the blocks of an inode with no map block, in page order
 abbrev pub blocks_of : InodeValue → List ℕ
 blocks_of v = flat_map place_blocks v.first
 
@@ -64,7 +64,7 @@ abbrev pub HasEntries : Parsed → InodeValue → Type 0
 HasEntries p i = (b : ℕ) → among (blocks_of i) b ≡ true → is_some (p.blocks b) ≡ true
 
 -- Inodes and entries have a spelling, each data block in use is claimed once, by the inode that has it, and the blocks of
--- directories say their entries. That the names and the numbers of names agree isn't asked for yet.
+-- directories say their entries. Whether the names fit the inodes is not part of it.
 pub record Valid (v : Volume) (p : Parsed) : Type 0 where
   pub inodes : (n : ℕ) → IfSome (p.inodes n) (λ i. IsInode layout1 i × (2 ≤ n) × (n < 128 * v.units))
   pub claims : (b n : ℕ) → (p.claims b ≡ Some n) ↔ IfThere (p.inodes n) (λ i. among (blocks_of i) b ≡ true)

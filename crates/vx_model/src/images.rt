@@ -1,13 +1,13 @@
 //! What an image says, from one state to the next.
-ghost use Rattle.std.specs.Prelude.{◌≡◌, ℕ, ◌+◌, ◌*◌, ◌/◌, ◌<◌, true, false, List, ◌++◌, Some, IfSome, IsTrue};
+ghost use Rattle.std.specs.Prelude.{◌≡◌, ◌≢◌, ◌⊎◌, ℕ, ◌+◌, ◌*◌, ◌/◌, ◌<◌, true, false, List, ◌++◌, Some, IfSome, IsTrue};
 ghost use Rattle.std.specs.Option.{option_map};
 ghost use Rattle.std.specs.List.{AllByRecursion};
-ghost use Rattle.vx_layout.specs.Places.{Volume, Place, per_block, block_sector, bitmap_sector, inode_sector, is_data, place_of, IsVolume, sector_part};
+ghost use Rattle.vx_layout.specs.Places.{Volume, Place, outside, per_block, block_sector, bitmap_sector, inode_sector, is_data, place_of, IsVolume, sector_part};
 ghost use Rattle.vx_layout.specs.Bits.{bits_bytes};
 ghost use Rattle.vx_layout.specs.Inodes.{slot_bytes};
 ghost use Rattle.vx_layout.specs.Dirs.{dir_bytes};
-ghost use Rattle.vx_layout.specs.LogForms.{AfterImage};
-ghost use Rattle.vx_model.specs.Images.{Parsed, content, content_at, Stands, is_metadata, contents, Changes, touches, SameBut, IsBatch, HasSectors, overlaid, used_in};
+ghost use Rattle.vx_layout.specs.LogForms.{AfterImage, overlay, overlay_all, LogState, ReadsAs};
+ghost use Rattle.vx_model.specs.Images.{Parsed, content, content_at, Stands, is_metadata, contents, Changes, touches, SameBut, IsBatch, HasSectors, Says, overlaid, used_in};
 
 /// What does not change keeps its content, and so it is enough to write the sectors that the changes touch.
 pub fn step_stands()
@@ -27,6 +27,16 @@ pub fn batch_stands()
 pub fn metadata()
     ensures stands { (v : Volume) (p : Parsed) (image : ℕ → List ℕ) → ((s : ℕ) → IsTrue (is_metadata v p s) → image s ≡ contents v p s) → Stands v p image }
     ensures holds { (v : Volume) (p : Parsed) (image : ℕ → List ℕ) → Stands v p image → (s : ℕ) → IsTrue (is_metadata v p s) → image s ≡ contents v p s }
+    ensures inside { (v : Volume) (p : Parsed) (s : ℕ) → IsTrue (is_metadata v p s) → place_of v s ≢ outside }
+{}
+
+/// An image with a log says what the log stands for, once its records are laid over it; and so with one batch more.
+pub fn log_says()
+    ensures stands { (n : ℕ) (v : Volume) (p : Parsed) (r : LogState) (image : ℕ → List ℕ) → Says v p r → ReadsAs n r image → Stands v p (λ s. overlay_all r.records s (image s)) }
+    ensures next { (v : Volume) (old new : Parsed) (c : Changes) (batch : List AfterImage) (r next : LogState) → Says v old r → SameBut v old new c → IsBatch v new c batch
+        → ((s : ℕ) → IsTrue (is_metadata v new s) → IsTrue (next.is_metadata s)) → ((s : ℕ) → next.contents s ≡ overlay batch s (r.contents s)) → Says v new next }
+    ensures covered { (v : Volume) (old new : Parsed) (c : Changes) (batch : List AfterImage) → SameBut v old new c → IsBatch v new c batch
+        → (s : ℕ) → IsTrue (is_metadata v new s) → IsTrue (is_metadata v old s) ⊎ ((x y : List ℕ) → overlay batch s x ≡ overlay batch s y) }
 {}
 
 /// What the sectors of each thing hold.
