@@ -12,3 +12,5 @@ pub mod Faultless
 pub mod Reading
 pub mod Scripts
 pub mod Ending
+pub mod BitLaws
+pub mod SectorLaws

@@ -10,3 +10,4 @@ pub mod Words
 pub mod Reads
 pub mod Ends
 pub mod Outcomes
+pub mod Sectors

@@ -2,6 +2,7 @@
 ghost use Rattle.std.specs.Prelude.{◌≡◌, ◌<◌, ◌≤◌, ◌+◌, OnOk, OnErr};
 ghost use Rattle.vx_base.specs.Faults.{HasCause};
 ghost use Rattle.vx_run.specs.Devices.{Onward};
+ghost use Rattle.vx_run.specs.Sectors.{unit_bytes};
 
 use crate::device::{pass, put};
 use crate::sectors::{bits_of_unit, directory_value};
@@ -28,7 +29,9 @@ pub fn superblock(clean: bool) -> Super
 }
 
 /// The sector with this number of a new unit.
-fn unit_sector(i: u64) -> [u8; 512] {
+fn unit_sector(i: u64) -> [u8; 512]
+    ensures { result ≡ unit_bytes i }
+{
     match i {
         0 => bits_of_unit(false),
         3 => inode_sector(Some(&directory_value(ROOT_MODE, &[])), None),

@@ -1,6 +1,11 @@
 //! The sectors that hold the metadata.
-ghost use Rattle.std.specs.Prelude.{◌≡◌, ◌<◌, ◌≤◌, ◌+◌, [], length, All, ℕ};
+ghost use Rattle.std.specs.Prelude.{◌≡◌, ◌<◌, ◌≤◌, ◌+◌, ◌*◌, [], length, All, ℕ};
+ghost use Rattle.vx_layout.specs.Dirs.{dir_bytes};
+ghost use Rattle.vx_model.specs.Contents.{inode_for, inode_value};
+ghost use Rattle.vx_model.specs.Tree.{Entries, IsDirectory};
 ghost use Rattle.vx_model.specs.Layout.{used_by};
+ghost use Rattle.vx_run.specs.Metadata.{state_of};
+ghost use Rattle.vx_run.specs.Sectors.{root_blocks, bitmap_bytes, pair_bytes, first_images, transaction_of};
 ghost use Rattle.vx_run.specs.Devices.{IsTransaction, IsPart};
 
 use crate::metadata::Metadata;
@@ -35,7 +40,8 @@ const NO_ATTRS: ExtAttrs = ExtAttrs {
 pub fn stage(batch: &mut Batch, metadata: &Metadata, made: u32)
     requires empty { batch.old ≡ [] }
     requires inode { made < 128 }
-    ensures { IsTransaction batch.new }
+    ensures transaction { IsTransaction batch.new }
+    ensures images { batch.new ≡ transaction_of (state_of metadata.now) metadata.now.entries.items made }
 {
     stage_first(batch, metadata);
     batch.set(
@@ -50,7 +56,8 @@ pub fn stage(batch: &mut Batch, metadata: &Metadata, made: u32)
 /// Where the root has its first entry, its block is new: the bitmap and its inode have changed.
 fn stage_first(batch: &mut Batch, metadata: &Metadata)
     requires { batch.old ≡ [] }
-    ensures { IsPart 2 batch.new }
+    ensures part { IsPart 2 batch.new }
+    ensures images { batch.new ≡ first_images (state_of metadata.now) metadata.now.entries.items }
 {
     if metadata.entries.len() == 1 {
         batch.set(SectorNo::new(BITMAP), &bits_of_unit(true));
@@ -62,7 +69,9 @@ fn stage_first(batch: &mut Batch, metadata: &Metadata)
 }
 
 /// The bitmap of the only unit: its own block and those of the inodes are in use, and the root's block where that is there.
-pub fn bits_of_unit(root_block: bool) -> [u8; 512] {
+pub fn bits_of_unit(root_block: bool) -> [u8; 512]
+    ensures { result ≡ bitmap_bytes root_block }
+{
     let mut used = [false; 4096];
     for j in 0..33 {
         used[j] = true;
@@ -74,6 +83,7 @@ pub fn bits_of_unit(root_block: bool) -> [u8; 512] {
 /// The sector of inodes 2 `pair` and 2 `pair` + 1.
 fn inode_pair(metadata: &Metadata, pair: u32) -> [u8; 512]
     requires { pair < 64 }
+    ensures { result ≡ pair_bytes (state_of metadata.now) pair }
 {
     let even = inode_value(metadata, 2 * pair);
     let odd = inode_value(metadata, 2 * pair + 1);
@@ -81,7 +91,9 @@ fn inode_pair(metadata: &Metadata, pair: u32) -> [u8; 512]
 }
 
 /// What an inode's slot says; none where the number is unused.
-fn inode_value(metadata: &Metadata, ino: u32) -> Option<InodeValue> {
+fn inode_value(metadata: &Metadata, ino: u32) -> Option<InodeValue>
+    ensures { result ≡ inode_value (state_of metadata.now) ino }
+{
     match metadata.nodes.get(ino) {
         None => None,
         Some(PlainNode::File(file)) => Some(InodeValue {
@@ -105,7 +117,9 @@ fn inode_value(metadata: &Metadata, ino: u32) -> Option<InodeValue> {
 }
 
 /// The root's slot, whose block is there where it has entries.
-pub fn directory_value(mode: u16, entries: &[DirEntry]) -> InodeValue {
+pub fn directory_value(mode: u16, entries: &[DirEntry]) -> InodeValue
+    ensures { (names : Entries) → result ≡ inode_for (root_blocks entries.now) (IsDirectory (record { mode = mode; entries = names })) }
+{
     let block = Extent {
         page: Page::new(0),
         start: Block::new(ROOT_BLOCK),
@@ -133,7 +147,9 @@ pub fn directory_value(mode: u16, entries: &[DirEntry]) -> InodeValue {
     }
 }
 
-fn root_block(metadata: &Metadata) -> [u8; 1024] {
+fn root_block(metadata: &Metadata) -> [u8; 1024]
+    ensures { result ≡ dir_bytes 1024 metadata.now.entries.items }
+{
     let _used = metadata.used;
     write_dir::<1024>(&metadata.entries)
 }
