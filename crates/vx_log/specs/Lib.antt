@@ -4,3 +4,4 @@ pub mod Logs
 pub mod Crashes
 pub mod Moments
 pub mod Stages
+pub mod Readings

@@ -4,6 +4,7 @@
 
 mod batch;
 mod body;
+mod commit;
 mod descriptor;
 mod head;
 mod laws;

@@ -14,3 +14,5 @@ pub mod Reads
 pub mod Contents
 pub mod LaidOut
 pub mod Shapes
+pub mod Replays
+pub mod Allowed

@@ -1,7 +1,8 @@
 -- A mount between two calls.
-use Rattle.std.specs.Prelude.{◌≡◌, ◌⊎◌, ◌≤◌, ◌*◌, ◌+◌, ℕ, Bool, true, false, List, [], ◌∷◌, ◌++◌, length, Option, Some, None, IsSome, filter_map}
+use Rattle.std.specs.Prelude.{◌≡◌, ◌⊎◌, ◌<◌, ◌≤◌, ◌*◌, ◌+◌, ℕ, Bool, true, false, List, [], ◌∷◌, ◌++◌, length, Option, Some, None, IsSome, filter_map, All}
 use Rattle.std.specs.FinMap as map
 use Rattle.vx_base.specs.declared.call.Call.{Call}
+use Rattle.vx_base.specs.declared.call.Call.TheVariants as call
 use Rattle.vx_base.specs.declared.reply.Reply.{Reply}
 use Rattle.vx_base.specs.declared.refusal.Refusal.{Refusal}
 use Rattle.vx_base.specs.declared.refusal.Refusal.TheVariants as no
@@ -10,12 +11,15 @@ use Rattle.vx_base.specs.declared.event.Event.{Event}
 use Rattle.vx_base.specs.declared.event.Event.TheVariants as event
 use Rattle.vx_base.specs.Faults.{Rose}
 use Rattle.vx_dev.specs.Tape as dev
+use Rattle.vx_log.specs.Logs.{LogView}
+use Rattle.vx_log.specs.Moments.{Told, Past}
+use Rattle.vx_model.specs.Allowed.{come_by, IsAllowed}
 use Rattle.vx_model.specs.State.{State, fresh}
 use Rattle.vx_model.specs.Step.{step}
 use Rattle.vx_model.specs.Legal.{World, opening, after_all, Legal, IfThere, is_fault, state_after}
 use Rattle.vx_run.specs.States.{new_log_blocks}
 use Rattle.vx_run.specs.Metadata.{state_of}
-use Rattle.vx_run.specs.Journals.{IsAtRest}
+use Rattle.vx_run.specs.Journals.{IsAtRest, IsMounted, IsKept}
 use Rattle.vx_run.specs.declared.engine.Core.{Core}
 
 -- where every mount begins: a new file system whose directories have one block at most
@@ -31,12 +35,32 @@ pub record IsRun (opened : ℕ) (history : List Event) (state : State) (count : 
   pub at : (after_all (beginning opened) history).at ≤ count
   pub mounted : (after_all (beginning opened) history).unmounted ≡ false
 
+-- each Ret answers a Do that came before it
+abbrev pub IsPlaced : ℕ → Event → Type 0
+IsPlaced length (event.Ret at place answer) = place < length
+IsPlaced length _ = Unit {0}
+
+-- a crash at any earlier moment from the end of the format on leaves what the history allows, and so does one now
+pub record IsLive (opened : ℕ) (history : List Event) (disabled : Option ℕ) (log : LogView) (homes : List (Option (List ℕ))) (s : State) (t : dev.Tape) : Type 0 where
+  pub past : Past (opened + 70) (IsAllowed (beginning opened) history) t
+  pub kept : disabled ≡ None → IsKept log homes s t
+  pub stopped : IsSome disabled → (image : ℕ → List ℕ) → dev.IsImage t image → IsAllowed (beginning opened) history (length t.ops) image
+
 -- what every mount keeps between two calls
 pub record IsCore (d : dev.State) (core : Core) : Type 0 where
   pub run : IsRun core.opened core.history.items (state_of core.metadata) d.count
   pub size : 9220 ≤ d.size
   pub rest : core.disabled ≡ None → IsAtRest core.journal
   pub head : core.journal.log.head ≤ 8 * length core.history.items
+  pub mounted : IsMounted (state_of core.metadata)
+  pub come : (m : ℕ) → d.count ≤ m → come_by core.history.items m ≡ length core.history.items
+  pub placed : All (IsPlaced (length core.history.items)) core.history.items
+  pub live : Told d (IsLive core.opened core.history.items core.disabled core.journal.log core.journal.homes (state_of core.metadata))
+
+-- a create has a mode that an inode can have
+abbrev pub HasMode : Call → Type 0
+HasMode (call.Create path mode) = mode ≤ 4095
+HasMode _ = Unit {0}
 
 -- a line's call and its answer, behind the history before it
 pub record IsAnswered (line : ℕ) (call : Call) (old new : List Event) : Type 0 where

@@ -14,7 +14,11 @@ use Rattle.vx_script.specs.Start.{status_of, refused_text}
 use Rattle.vx_script.specs.Output.{output_of}
 use Rattle.vx_script.specs.Puts.{AppendsPrefix}
 use Rattle.vx_run.specs.Words.{are_words}
-use Rattle.vx_run.specs.Cores.{IsEnded, is_unmounted, IsOfLines, AnswersWithReason}
+use Rattle.vx_log.specs.Moments.{Told, Always}
+use Rattle.vx_model.specs.Allowed.{IsAllowed}
+use Rattle.vx_model.specs.Legal.{after_all}
+use Rattle.vx_run.specs.Journals.{IsLeft}
+use Rattle.vx_run.specs.Cores.{beginning, IsEnded, is_unmounted, IsOfLines, AnswersWithReason}
 
 -- what a run is given: its words, its script where the source tells it, its device, and the source's faults so far
 pub record Setting : Type 0 where
@@ -72,7 +76,9 @@ pub record IsUnformatted (s : Setting) (d : dev.State) : Type 0 where
   pub fewer : d.count < s.device.count + format_ops
 
 -- A run that was begun: its history is legal from a new file system on, its calls are the script's lines in order, all of them,
--- and each is answered; it ends unmounted exactly where no write failed.
+-- and each is answered; it ends unmounted exactly where no write failed. Where the device tells its operations, each image that a
+-- crash may leave at any moment from the end of the format on is one that the history allows; and unmounted, the one image is
+-- clean and reads as the history's final tree.
 pub record IsFinished (s : Setting) (d : dev.State) (disabled : Bool) (history : List Event) : Type 0 where
   pub calls : List Call
   pub asks : Asks s calls
@@ -86,6 +92,8 @@ pub record IsFinished (s : Setting) (d : dev.State) (disabled : Bool) (history :
   pub fine : disabled ≡ false → d.write_faults ≡ s.device.write_faults
   pub rose : disabled ≡ true → Rose s.device.write_faults d.write_faults
   pub formatted : s.device.count + format_ops ≤ d.count
+  pub crash : Told d (Always (s.device.count + format_ops) (IsAllowed (beginning s.device.count) history))
+  pub clean : disabled ≡ false → Told d (IsLeft (after_all (beginning s.device.count) history).state.tree)
 
 -- the cause of each end
 abbrev pub HasEnded : Setting → dev.State → ℕ → End → Type 0

@@ -3,6 +3,7 @@ pub mod Nodes
 pub mod States
 pub mod Metadata
 pub mod Devices
+pub mod Noted
 pub mod Journals
 pub mod Replies
 pub mod Cores

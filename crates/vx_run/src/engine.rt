@@ -1,5 +1,5 @@
 //! A mount: it answers one call after another, and keeps the history.
-ghost use Rattle.std.specs.Prelude.{◌≡◌, ◌⊎◌, ◌<◌, ◌≤◌, ◌+◌, ◌*◌, ◌^◌, ◌++◌, ◌∷◌, [], ℕ, true, None, Some, OnOk, OnErr, IfOk, IfSome, length, vec_len, vec_capacity, is_none, List, All};
+ghost use Rattle.std.specs.Prelude.{◌≡◌, ◌⊎◌, ◌<◌, ◌≤◌, ◌+◌, ◌*◌, ◌^◌, ◌++◌, ◌∷◌, [], ℕ, true, None, Some, OnOk, OnErr, IfOk, IfSome, length, vec_len, vec_capacity, is_none, replicate, List, All};
 ghost use Rattle.vx_base.specs.Faults.{HasCause};
 ghost use Rattle.vx_base.specs.declared.event.Event.TheVariants as event;
 ghost use Rattle.vx_base.specs.declared.call.Call.{Call};
@@ -30,7 +30,14 @@ pub struct Core {
 }
 
 impl Core {
-    ghost use Rattle.vx_run.specs.Cores.{IsCore, IsAnswered, IsRun, IsEnded, is_unmounted, IsOfLines, TellsFaults, AnswersWithReason, StaysDisabled};
+    ghost use Rattle.vx_log.specs.Moments.{Told, Always};
+    ghost use Rattle.vx_log.specs.Logs.{fresh_log};
+    ghost use Rattle.vx_model.specs.Allowed.{IsAllowed};
+    ghost use Rattle.vx_model.specs.Legal.{after_all};
+    ghost use Rattle.vx_model.specs.State.{fresh};
+    ghost use Rattle.vx_run.specs.States.{new_log_blocks};
+    ghost use Rattle.vx_run.specs.Journals.{IsLeft};
+    ghost use Rattle.vx_run.specs.Cores.{beginning, HasMode, IsCore, IsAnswered, IsRun, IsEnded, is_unmounted, IsOfLines, TellsFaults, AnswersWithReason, StaysDisabled};
     ghost use Rattle.vx_run.specs.Journals.{IsAtRest};
 
     /// A mount of a new file system. It takes all memory for the history of so many lines.
@@ -43,6 +50,9 @@ impl Core {
         ensures room { IfOk result (λ core. 2 * lines + 1 ≤ vec_capacity core.history) }
         ensures enabled { IfOk result (λ core. core.disabled ≡ None) }
         ensures opened { IfOk result (λ core. core.opened ≡ opened) }
+        ensures log { IfOk result (λ core. core.journal.log ≡ fresh_log 1024) }
+        ensures homes { IfOk result (λ core. core.journal.homes ≡ replicate 68 None) }
+        ensures state { IfOk result (λ core. state_of core.metadata ≡ fresh new_log_blocks 1) }
     {
         let journal = Journal::new(alloc)?;
         let metadata = Metadata::new(alloc)?;
@@ -61,6 +71,7 @@ impl Core {
         requires core { IsCore (D.state dev.old) self.old }
         requires built { has_step call ≡ true }
         requires line { 0 < line }
+        requires mode { HasMode call }
         requires room { vec_len self.old.history + 2 ≤ vec_capacity self.old.history }
         requires short { vec_len self.old.history < 2 ^ 32 }
         ensures core { IsCore (D.state dev.new) self.new }
@@ -91,6 +102,7 @@ impl Core {
     pub fn answer_all<D: BlockDev>(&mut self, alloc: Global, dev: &mut D, calls: Vec<Call>)
         requires core { IsCore (D.state dev.old) self.old }
         requires built { All (λ call. has_step call ≡ true) calls.items }
+        requires modes { All HasMode calls.items }
         requires begins { self.old.history.items ≡ [] }
         requires room { 2 * length calls.items + 1 ≤ vec_capacity self.old.history }
         requires few { length calls.items ≤ 65535 }
@@ -114,6 +126,8 @@ impl Core {
     pub fn unmount<D: BlockDev>(&mut self, dev: &mut D)
         requires core { IsCore (D.state dev.old) self.old }
         requires room { vec_len self.old.history < vec_capacity self.old.history }
+        ensures allowed { Told (D.state dev.new) (Always (self.new.opened + 70) (IsAllowed (beginning self.new.opened) self.new.history.items)) }
+        ensures clean { self.new.disabled ≡ None → Told (D.state dev.new) (IsLeft (after_all (beginning self.new.opened) self.new.history.items).state.tree) }
         ensures ended { IsEnded self.new.opened self.new.history.items }
         ensures unmounted { is_unmounted self.new.opened self.new.history.items ≡ is_none self.new.disabled }
         ensures reasons { All (AnswersWithReason self.old.disabled) self.old.history.items → All (AnswersWithReason self.new.disabled) self.new.history.items }

@@ -1,8 +1,13 @@
 //! A new file system of one allocation unit.
-ghost use Rattle.std.specs.Prelude.{◌≡◌, ◌<◌, ◌≤◌, ◌+◌, OnOk, OnErr};
+ghost use Rattle.std.specs.Prelude.{◌≡◌, ◌<◌, ◌≤◌, ◌+◌, OnOk, OnErr, None, replicate};
 ghost use Rattle.vx_base.specs.Faults.{HasCause};
 ghost use Rattle.vx_run.specs.Devices.{Onward};
+ghost use Rattle.vx_log.specs.Logs.{fresh_log};
+ghost use Rattle.vx_log.specs.Moments.{Told};
+ghost use Rattle.vx_model.specs.State.{fresh};
+ghost use Rattle.vx_run.specs.Journals.{IsKept};
 ghost use Rattle.vx_run.specs.Sectors.{unit_bytes};
+ghost use Rattle.vx_run.specs.States.{new_log_blocks};
 
 use crate::device::{pass, put};
 use crate::sectors::{bits_of_unit, directory_value};
@@ -59,6 +64,7 @@ pub fn format<D: BlockDev>(dev: &mut D) -> Result<(), DevFault>
     ensures onward { Onward (D.state dev.old) (D.state dev.new) }
     ensures count { OnOk result ((D.state dev.new).count ≡ (D.state dev.old).count + 70) }
     ensures fewer { OnErr result ((D.state dev.new).count < (D.state dev.old).count + 70) }
+    ensures kept { OnOk result (Told (D.state dev.new) (IsKept (fresh_log 1024) (replicate 68 None) (fresh new_log_blocks 1))) }
     ensures cause { HasCause (D.state dev.old).write_faults (D.state dev.new).write_faults result }
 {
     put_unit(dev)?;

@@ -1,7 +1,9 @@
 //! Committed sectors that are not home yet.
 ghost use Rattle.std.specs.Prelude.{◌≡◌, ◌<◌, ◌≤◌, ◌+◌, ◌-◌, ◌^◌, OnOk, OnErr, Some, None, IfOk, length, replicate, slice_set};
 ghost use Rattle.vx_base.specs.Faults.{HasCause};
+ghost use Rattle.vx_log.specs.Runs.{Ran, BrokeOff, puts};
 ghost use Rattle.vx_run.specs.Devices.{Onward};
+ghost use Rattle.vx_run.specs.Noted.{noted_from};
 
 use crate::device::put;
 use std::alloc::{AllocError, Global};
@@ -56,6 +58,9 @@ impl Homes {
     /// Writes all noted sectors home, in rising order, and forgets them.
     pub fn put_all<D: BlockDev>(&mut self, dev: &mut D) -> Result<(), DevFault>
         requires { 1096 ≤ (D.state dev.old).size }
+        ensures ran { OnOk result (Ran (puts (noted_from 1028 self.old)) (D.state dev.old) (D.state dev.new)) }
+        ensures empty { OnOk result (self.new ≡ replicate 68 None) }
+        ensures broke { OnErr result (BrokeOff (noted_from 1028 self.old) (D.state dev.old) (D.state dev.new)) }
         ensures onward { Onward (D.state dev.old) (D.state dev.new) }
         ensures cause { HasCause (D.state dev.old).write_faults (D.state dev.new).write_faults result }
     {
@@ -70,6 +75,8 @@ impl Homes {
 fn put_images<D: BlockDev>(dev: &mut D, images: &[Option<[u8; 512]>]) -> Result<(), DevFault>
     requires size { 1096 ≤ (D.state dev.old).size }
     requires count { length images.now ≡ 68 }
+    ensures ran { OnOk result (Ran (puts (noted_from 1028 images.now)) (D.state dev.old) (D.state dev.new)) }
+    ensures broke { OnErr result (BrokeOff (noted_from 1028 images.now) (D.state dev.old) (D.state dev.new)) }
     ensures onward { Onward (D.state dev.old) (D.state dev.new) }
     ensures cause { HasCause (D.state dev.old).write_faults (D.state dev.new).write_faults result }
 {

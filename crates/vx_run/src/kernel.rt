@@ -1,8 +1,10 @@
 //! The device with its log: commits, homes and unmounting.
-ghost use Rattle.std.specs.Prelude.{◌≡◌, ◌<◌, ◌≤◌, ◌+◌, ◌*◌, ◌^◌, OnOk, OnErr, IfOk, IsNone, IsSome, Some, None, [], length, All, ℕ, IsTrue, option_map};
+ghost use Rattle.std.specs.Prelude.{◌≡◌, ◌⊎◌, ◌<◌, ◌≤◌, ◌+◌, ◌^◌, OnOk, OnErr, IfOk, None, length, replicate, All, ℕ};
 ghost use Rattle.vx_base.specs.Faults.{HasCause};
-ghost use Rattle.vx_dev.specs.Tape.{State};
-ghost use Rattle.vx_log.specs.Logs.{is_body_out};
+ghost use Rattle.vx_log.specs.Logs.{fresh_log};
+ghost use Rattle.vx_log.specs.Moments.{Told, Passed};
+ghost use Rattle.vx_model.specs.Replays.{ReplaysAs};
+ghost use Rattle.vx_model.specs.State.{State};
 ghost use Rattle.vx_run.specs.Devices.{Onward};
 
 use crate::device::{pass, put};
@@ -25,11 +27,14 @@ pub struct Journal {
 }
 
 impl Journal {
-    ghost use Rattle.vx_run.specs.Journals.{IsAtRest, IsIdle};
+    ghost use Rattle.vx_run.specs.Journals.{IsAtRest, IsIdle, IsMounted, IsMade, IsKept, IsLeft};
+    ghost use Rattle.vx_run.specs.Metadata.{state_of};
 
     /// The journal of a new file system. It takes all the memory that it ever needs.
     pub fn new(alloc: Global) -> Result<Self, AllocError>
-        ensures { IfOk result (λ journal. IsAtRest journal × (journal.log.head ≡ 0)) }
+        ensures rest { IfOk result IsAtRest }
+        ensures log { IfOk result (λ journal. journal.log ≡ fresh_log 1024) }
+        ensures homes { IfOk result (λ journal. journal.homes ≡ replicate 68 None) }
     {
         let log = Log::fresh(alloc, LOG_BLOCKS)?;
         let homes = Homes::new(alloc)?;
@@ -50,6 +55,10 @@ impl Journal {
         requires limit { self.old.log.head + 6 ≤ 2 ^ 62 }
         ensures rest { OnOk result (IsAtRest self.new) }
         ensures head { self.new.log.head ≤ self.old.log.head + 6 }
+        ensures kept { (s : State) → IsMade s (state_of metadata.now) made → Told (D.state dev.old) (IsKept self.old.log self.old.homes s)
+            → OnOk result (Told (D.state dev.new) (IsKept self.new.log self.new.homes (state_of metadata.now))) }
+        ensures passed { (s : State) → IsMade s (state_of metadata.now) made → Told (D.state dev.old) (IsKept self.old.log self.old.homes s)
+            → Passed (λ image. ReplaysAs image s.tree ⊎ ReplaysAs image (state_of metadata.now).tree) (D.state dev.old) (D.state dev.new) }
         ensures onward { Onward (D.state dev.old) (D.state dev.new) }
         ensures cause { HasCause (D.state dev.old).write_faults (D.state dev.new).write_faults result }
     {
@@ -61,11 +70,7 @@ impl Journal {
             self.empty(dev)?;
         }
         note_all(&mut self.homes, batch.entries());
-        self.log.close_batch(batch);
-        put_body(&mut self.log, dev)?;
-        pass(dev)?;
-        self.log.open_gate(dev)?;
-        pass(dev)?;
+        self.log.commit(dev, batch)?;
         self.ready = self.log.take_back();
         Ok(())
     }
@@ -78,23 +83,28 @@ impl Journal {
         ensures ready { self.new.ready ≡ self.old.ready }
         ensures empty { OnOk result (self.new.log.tail ≡ self.new.log.head) }
         ensures head { self.new.log.head ≡ self.old.log.head }
+        ensures kept { (s : State) → IsMounted s → Told (D.state dev.old) (IsKept self.old.log self.old.homes s)
+            → OnOk result (Told (D.state dev.new) (IsKept self.new.log self.new.homes s)) }
+        ensures passed { (s : State) → IsMounted s → Told (D.state dev.old) (IsKept self.old.log self.old.homes s)
+            → Passed (λ image. ReplaysAs image s.tree) (D.state dev.old) (D.state dev.new) }
         ensures onward { Onward (D.state dev.old) (D.state dev.new) }
         ensures cause { HasCause (D.state dev.old).write_faults (D.state dev.new).write_faults result }
     {
-        let head = self.log.head();
-        if self.log.tail() == head {
+        if self.log.tail() == self.log.head() {
             return Ok(());
         }
         self.homes.put_all(dev)?;
-        pass(dev)?;
-        self.log.advance_tail(dev, head)?;
-        pass(dev)
+        self.log.empty(dev)
     }
 
     /// Empties the log and leaves the file system clean.
     pub fn unmount<D: BlockDev>(&mut self, dev: &mut D) -> Result<(), DevFault>
         requires rest { IsAtRest self.old }
         requires size { 9220 ≤ (D.state dev.old).size }
+        ensures clean { (s : State) → IsMounted s → Told (D.state dev.old) (IsKept self.old.log self.old.homes s)
+            → OnOk result (Told (D.state dev.new) (IsLeft s.tree)) }
+        ensures passed { (s : State) → IsMounted s → Told (D.state dev.old) (IsKept self.old.log self.old.homes s)
+            → Passed (λ image. ReplaysAs image s.tree) (D.state dev.old) (D.state dev.new) }
         ensures onward { Onward (D.state dev.old) (D.state dev.new) }
         ensures cause { HasCause (D.state dev.old).write_faults (D.state dev.new).write_faults result }
     {
@@ -111,18 +121,4 @@ fn note_all(homes: &mut Homes, entries: &[(SectorNo, [u8; 512])])
     for entry in entries {
         homes.note(entry.0, &entry.1);
     }
-}
-
-/// Writes the log sectors of the closing batch.
-fn put_body<D: BlockDev>(log: &mut Log, dev: &mut D) -> Result<(), DevFault>
-    requires closing { IsSome log.old.closing }
-    requires area { 4 + log.old.sectors ≤ (D.state dev.old).size }
-    ensures out { OnOk result (IsTrue (is_body_out log.new.closing)) }
-    ensures same { log.new ≡ record log.old { closing = log.new.closing } }
-    ensures batch { option_map (λ c. c.batch) log.new.closing ≡ option_map (λ c. c.batch) log.old.closing }
-    ensures onward { Onward (D.state dev.old) (D.state dev.new) }
-    ensures cause { HasCause (D.state dev.old).write_faults (D.state dev.new).write_faults result }
-{
-    while !log.put_next(dev)? {}
-    Ok(())
 }

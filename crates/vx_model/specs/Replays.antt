@@ -1,0 +1,37 @@
+-- An image replays as a tree.
+use Rattle.std.specs.Prelude.{◌≡◌, ℕ, ◌+◌, ◌*◌, ◌<◌, ◌≤◌, Bool, true, List, [], length, get_or}
+use Rattle.vx_layout.specs.declared.superblock.Super.{Super}
+use Rattle.vx_layout.specs.Supers.{IsSuper, super_bytes, volume_of}
+use Rattle.vx_layout.specs.LogForms.{AfterImage, head_sector, log_at, log_sectors, overlay_all}
+use Rattle.vx_model.specs.Tree.{Tree}
+use Rattle.vx_model.specs.Reads.{ImageReadsAs}
+
+-- in a log of n sectors the head sector says where the live part is, and these records fill it
+pub record HasRecords (n : ℕ) (image : ℕ → List ℕ) (records : List (List AfterImage)) : Type 0 where
+  pub serial : ℕ
+  pub tail : ℕ
+  pub head : ℕ
+  pub head_is : image 2 ≡ head_sector serial tail head
+  pub ends : head ≡ tail + length (log_sectors tail records)
+  pub fits : head ≤ tail + n
+  pub whole : (i : ℕ) → i < length (log_sectors tail records) → image (log_at n (tail + i)) ≡ get_or (log_sectors tail records) i []
+
+-- The image has a superblock and a log, and with the log's records laid over it, the oldest first, it reads as the tree.
+pub record ReplaysAs (image : ℕ → List ℕ) (t : Tree) : Type 0 where
+  pub superblock : Super
+  pub is_super : IsSuper superblock
+  pub superblock_is : image 0 ≡ super_bytes superblock
+  pub records : List (List AfterImage)
+  pub log : HasRecords (2 * superblock.log_blocks) image records
+  pub reads : ImageReadsAs (volume_of superblock) (λ s. overlay_all records s (image s)) t
+
+-- The image was left clean, with an empty log, and reads as the tree.
+pub record IsClean (image : ℕ → List ℕ) (t : Tree) : Type 0 where
+  pub superblock : Super
+  pub is_super : IsSuper superblock
+  pub superblock_is : image 0 ≡ super_bytes superblock
+  pub clean : superblock.clean ≡ true
+  pub serial : ℕ
+  pub tail : ℕ
+  pub head_is : image 2 ≡ head_sector serial tail tail
+  pub reads : ImageReadsAs (volume_of superblock) image t
