@@ -9,5 +9,7 @@ pub mod Operations
 pub mod Commits
 pub mod HomeWrites
 pub mod Times
+pub mod Passing
 pub mod Overlays
 pub mod StageRuns
+pub mod CommitRuns

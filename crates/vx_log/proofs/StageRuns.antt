@@ -9,14 +9,26 @@ use Rattle.vx_dev.specs.Tape.{Tape, State, did, tried, IsImage}
 use Rattle.vx_dev.proofs.Tapes.{put_writes, tried_writes}
 use Rattle.vx_layout.specs.LogForms.{LogState, log_at, live}
 use Rattle.vx_log.specs.Runs.{did_all, Ran, puts, BrokeOff, log_writes}
-use Rattle.vx_log.specs.Crashes.{Stands, IsFree, IsPutHome}
-use Rattle.vx_log.specs.Moments.{Told}
-use Rattle.vx_log.specs.Stages.{Putting, AreHomes, WritingHome}
+use Rattle.vx_log.specs.Crashes.{Stands, IsFree, IsPut, IsPutHome}
+use Rattle.vx_log.specs.Moments.{Told, Past}
+use Rattle.vx_log.specs.Stages.{AreHomes}
 use Rattle.vx_log.proofs.Operations.{stands_put}
 use Rattle.vx_log.proofs.Commits.{put_more, put_stays, body_free}
 use Rattle.vx_log.proofs.HomeWrites.{home_put, home_put_other, home_free}
 use Rattle.vx_log.proofs.Times.{past_did}
 use Rattle.vx_log.proofs.RunLemmas.{length-puts, length-log_writes, take-puts, puts-push, get_or-log_writes}
+
+-- the first k log sectors of a body are written, and each earlier moment was as claimed
+pub record Putting (n : ℕ) (r : LogState) (body : List (List ℕ)) (first : ℕ) (P : ℕ → (ℕ → List ℕ) → Type 0) (k : ℕ) (t : Tape) : Type 0 where
+  pub stands : Stands n r t
+  pub put : IsPut n r.head body k t
+  pub past : Past first P t
+
+-- the first k of these writes are done, and each earlier moment was as claimed
+pub record WritingHome (n : ℕ) (r : LogState) (writes : List (ℕ × List ℕ)) (first : ℕ) (P : ℕ → (ℕ → List ℕ) → Type 0) (k : ℕ) (t : Tape) : Type 0 where
+  pub stands : Stands n r t
+  pub home : (j : ℕ) (d : ℕ × List ℕ) → j < k → IsPutHome r (get_or writes j d).0 t
+  pub past : Past first P t
 
 pub told_ran : (ops : List Operation) (old new : Option Tape) (P Q : Tape → Type 0) → new ≡ option_map (did_all ops) old → ((t : Tape) → P t → Q (did_all ops t)) → IfSome old P → IfSome new Q
 told_ran ops None new P Q is step h = subst (λ (o : Option Tape). IfSome o Q) (sym is) tt

@@ -1,8 +1,7 @@
--- What a log stands for, and what a commit and an emptying make of it.
-use Rattle.std.specs.Prelude.{◌≡◌, ◌⊎◌, ℕ, Bool, IsTrue, List}
-use Rattle.vx_dev.specs.Tape.{Tape}
-use Rattle.vx_layout.specs.LogForms.{AfterImage, LogState, records_of, overlay_all}
-use Rattle.vx_log.specs.Crashes.{IsApart, Stands, Covers, IsPutHome}
+-- What a log stands for, and what a commit makes of it.
+use Rattle.std.specs.Prelude.{◌≡◌, ℕ, Bool, List}
+use Rattle.vx_layout.specs.LogForms.{AfterImage, LogState, records_of}
+use Rattle.vx_log.specs.Crashes.{IsApart, Covers}
 use Rattle.vx_log.specs.Logs.{LogView}
 
 -- what the head sector says of the log
@@ -16,8 +15,3 @@ pub record Commits (log : LogView) (r : LogState) (batch : List AfterImage) (is_
   pub reading : IsReading log r
   pub apart : IsApart log.sectors is_metadata
   pub covers : Covers r (records_of batch) is_metadata
-
--- each metadata sector that a record names was written home
-pub record AreHomesPut (n : ℕ) (r : LogState) (t : Tape) : Type 0 where
-  pub stands : Stands n r t
-  pub put : (s : ℕ) → IsTrue (r.is_metadata s) → ((x : List ℕ) → overlay_all r.records s x ≡ x) ⊎ IsPutHome r s t

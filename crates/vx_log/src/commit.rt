@@ -1,11 +1,12 @@
 //! Whole commits, and the emptying of the log.
-ghost use Rattle.std.specs.Prelude.{◌≡◌, ◌⊎◌, ◌+◌, ◌<◌, ◌≤◌, ◌^◌, ℕ, Bool, IsTrue, IsSome, IsNone, OnOk, OnErr, length, All, option_map};
+ghost use Rattle.std.specs.Prelude.{◌≡◌, ◌⊎◌, ◌+◌, ◌<◌, ◌≤◌, ◌^◌, ℕ, Bool, Some, IsTrue, IsSome, IsNone, OnOk, OnErr, List, length, All, option_map};
 ghost use Rattle.vx_base.specs.Faults.{HasCause};
-ghost use Rattle.vx_layout.specs.LogForms.{LogState, ReadsAs, log_length, records_of, body_of};
+ghost use Rattle.vx_layout.specs.LogForms.{AfterImage, LogState, ReadsAs, log_length, records_of, body_of};
 ghost use Rattle.vx_log.specs.Crashes.{Stands, grown, emptied};
 ghost use Rattle.vx_log.specs.Logs.{IsHomeSector, closed, opened, advanced, is_body_out};
 ghost use Rattle.vx_log.specs.Moments.{Told, Passed};
-ghost use Rattle.vx_log.specs.Readings.{IsReading, Commits, AreHomesPut};
+ghost use Rattle.vx_log.specs.Readings.{IsReading, Commits};
+ghost use Rattle.vx_log.specs.Stages.{IsBodyPut, IsToPut, AreHomesPut};
 
 use crate::batch::Batch;
 use crate::log::Log;
@@ -22,7 +23,7 @@ impl Log {
         requires limit { self.old.head + log_length (length batch) ≤ 2 ^ 62 }
         requires area { 4 + self.old.sectors ≤ (D.state dev.old).size }
         ensures opened { OnOk result (self.new ≡ opened (closed self.old batch)) }
-        ensures head { OnErr result (self.new.head ≡ self.old.head) }
+        ensures head { self.new.head ≤ self.old.head + log_length (length batch) }
         ensures stands { (r : LogState) (is_metadata : ℕ → Bool) → Commits self.old r batch is_metadata → Told (D.state dev.old) (Stands self.old.sectors r)
             → OnOk result (Told (D.state dev.new) (Stands self.old.sectors (grown r (records_of batch) is_metadata))) }
         ensures passed { (r : LogState) (is_metadata : ℕ → Bool) → Commits self.old r batch is_metadata → Told (D.state dev.old) (Stands self.old.sectors r)
@@ -32,6 +33,7 @@ impl Log {
         ensures reads { (D.state dev.new).read_faults ≡ (D.state dev.old).read_faults }
         ensures cause { HasCause (D.state dev.old).write_faults (D.state dev.new).write_faults result }
     {
+        let _head = self.head();
         self.close_batch(batch);
         put_all(self, dev)?;
         dev.barrier()?;
@@ -45,7 +47,7 @@ impl Log {
         requires free { IsNone self.old.closing }
         requires area { 4 + self.old.sectors ≤ (D.state dev.old).size }
         ensures emptied { OnOk result (self.new ≡ advanced self.old self.old.head) }
-        ensures head { OnErr result (self.new.head ≡ self.old.head) }
+        ensures head { self.new.head ≡ self.old.head }
         ensures stands { (r : LogState) → IsReading self.old r → Told (D.state dev.old) (AreHomesPut self.old.sectors r)
             → OnOk result (Told (D.state dev.new) (Stands self.old.sectors (emptied r))) }
         ensures passed { (r : LogState) → IsReading self.old r → Told (D.state dev.old) (AreHomesPut self.old.sectors r)
@@ -69,6 +71,10 @@ fn put_all<D: BlockDev>(log: &mut Log, dev: &mut D) -> Result<(), DevFault>
     ensures out { OnOk result (IsTrue (is_body_out log.new.closing)) }
     ensures same { log.new ≡ record log.old { closing = log.new.closing } }
     ensures batch { option_map (λ c. c.batch) log.new.closing ≡ option_map (λ c. c.batch) log.old.closing }
+    ensures put { (n : ℕ) (r : LogState) (batch : List AfterImage) → IsToPut log.old n r batch → Told (D.state dev.old) (Stands n r)
+        → OnOk result (Told (D.state dev.new) (IsBodyPut n r batch (length (body_of r.head batch)))) }
+    ensures passed { (n : ℕ) (r : LogState) (batch : List AfterImage) → IsToPut log.old n r batch → Told (D.state dev.old) (Stands n r)
+        → Passed (ReadsAs n r) (D.state dev.old) (D.state dev.new) }
     ensures size { (D.state dev.new).size ≡ (D.state dev.old).size }
     ensures later { (D.state dev.old).count ≤ (D.state dev.new).count }
     ensures reads { (D.state dev.new).read_faults ≡ (D.state dev.old).read_faults }

@@ -7,9 +7,9 @@ ghost use Rattle.vx_layout.specs.LogForms.{AfterImage, LogState, ReadsAs, log_at
 ghost use Rattle.vx_log.specs.Batches.{sectors_of, batch_set, IsBatch};
 ghost use Rattle.vx_log.specs.Crashes.{IsApart, Holds, Stands, Either, Turns, IsDecided, IsFree, grown, Covers, trimmed, emptied, IsPut, IsCertainBody, IsPutHome, IsStableHome, IsHome, IsHomeBut};
 ghost use Rattle.vx_log.specs.Logs.{next_serial};
-ghost use Rattle.vx_log.specs.Moments.{Told, Always};
+ghost use Rattle.vx_log.specs.Moments.{Told, Passed};
 ghost use Rattle.vx_log.specs.Runs.{Ran, BrokeOff, puts, log_writes};
-ghost use Rattle.vx_log.specs.Stages.{Putting, AreHomes, WritingHome};
+ghost use Rattle.vx_log.specs.Stages.{IsBodyPut, IsFitting, AreHomes, AreWritten};
 
 /// What the after-images of a batch make of a sector.
 pub fn batch_laws()
@@ -33,13 +33,12 @@ pub fn body_laws()
     ensures free { (n : ℕ) (r : LogState) (t : Tape) (k : ℕ) → 0 < n → Holds n r t → r.head + k < r.tail + n → IsFree n r (log_at n (r.head + k)) }
     ensures more { (n position : ℕ) (body : List (List ℕ)) (k : ℕ) (t : Tape) → 0 < n → k < n → IsPut n position body k t → IsPut n position body (k + 1) (did (Put (log_at n (position + k)) (get_or body k [])) t) }
     ensures certain { (n position : ℕ) (body : List (List ℕ)) (t : Tape) → IsPut n position body (length body) t → IsCertainBody n position body (did Barrier t) }
-    ensures stage { (n : ℕ) (r : LogState) (body : List (List ℕ)) (first from end : ℕ) (old new : State) → 0 < n → from ≤ end → end ≤ length body → r.head + length body ≤ r.tail + n
-        → Ran (puts (log_writes n (r.head + from) (slice_range body from end))) old new
-        → Told old (Putting n r body first (λ _ image. ReadsAs n r image) from) → Told new (Putting n r body first (λ _ image. ReadsAs n r image) end) }
-    ensures broken { (n : ℕ) (r : LogState) (body : List (List ℕ)) (first from end : ℕ) (old new : State) → 0 < n → from ≤ end → end ≤ length body → r.head + length body ≤ r.tail + n
-        → BrokeOff (log_writes n (r.head + from) (slice_range body from end)) old new
-        → Told old (Putting n r body first (λ _ image. ReadsAs n r image) from) → Told new (Putting n r body first (λ _ image. ReadsAs n r image) from) }
-    ensures moments { (n : ℕ) (r : LogState) (body : List (List ℕ)) (first k : ℕ) (t : Tape) → Putting n r body first (λ _ image. ReadsAs n r image) k t → Always first (λ _ image. ReadsAs n r image) t }
+    ensures stage { (n : ℕ) (r : LogState) (batch : List AfterImage) (from end : ℕ) (old new : State) → IsFitting n r batch → from ≤ end → end ≤ length (body_of r.head batch)
+        → Ran (puts (log_writes n (r.head + from) (slice_range (body_of r.head batch) from end))) old new
+        → Told old (IsBodyPut n r batch from) → Told new (IsBodyPut n r batch end) × Passed (ReadsAs n r) old new }
+    ensures broken { (n : ℕ) (r : LogState) (batch : List AfterImage) (from end : ℕ) (old new : State) → IsFitting n r batch → from ≤ end → end ≤ length (body_of r.head batch)
+        → BrokeOff (log_writes n (r.head + from) (slice_range (body_of r.head batch) from end)) old new
+        → Told old (IsBodyPut n r batch from) → Passed (ReadsAs n r) old new }
 {}
 
 /// The head sector with a new batch or a new tail is written, and a barrier passes behind it.
@@ -61,8 +60,8 @@ pub fn home_laws()
     ensures put { (r : LogState) (s : ℕ) (t : Tape) → IsPutHome r s (did (Put s (r.contents s)) t) }
     ensures stable { (r : LogState) (s : ℕ) (t : Tape) → IsPutHome r s t → IsStableHome r s (did Barrier t) }
     ensures home { (n : ℕ) (r : LogState) (t : Tape) → Holds n r t → ((s : ℕ) → IsTrue (r.is_metadata s) → ((x : List ℕ) → overlay_all r.records s x ≡ x) ⊎ IsStableHome r s t) → IsHome r t }
-    ensures stage { (n : ℕ) (r : LogState) (writes : List (ℕ × List ℕ)) (first : ℕ) (old new : State) → 0 < n → AreHomes r writes → Ran (puts writes) old new
-        → Told old (WritingHome n r writes first (λ _ image. ReadsAs n r image) 0) → Told new (WritingHome n r writes first (λ _ image. ReadsAs n r image) (length writes)) }
-    ensures broken { (n : ℕ) (r : LogState) (writes : List (ℕ × List ℕ)) (first : ℕ) (old new : State) → 0 < n → AreHomes r writes → BrokeOff writes old new
-        → Told old (WritingHome n r writes first (λ _ image. ReadsAs n r image) 0) → Told new (WritingHome n r writes first (λ _ image. ReadsAs n r image) 0) }
+    ensures stage { (n : ℕ) (r : LogState) (writes : List (ℕ × List ℕ)) (old new : State) → 0 < n → AreHomes r writes → Ran (puts writes) old new
+        → Told old (Stands n r) → Told new (AreWritten n r writes) × Passed (ReadsAs n r) old new }
+    ensures broken { (n : ℕ) (r : LogState) (writes : List (ℕ × List ℕ)) (old new : State) → 0 < n → AreHomes r writes → BrokeOff writes old new
+        → Told old (Stands n r) → Passed (ReadsAs n r) old new }
 {}

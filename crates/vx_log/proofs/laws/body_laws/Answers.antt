@@ -1,9 +1,5 @@
-use Rattle.std.proofs.Common.{ℕ, List}
-use Rattle.vx_layout.specs.LogForms.{ReadsAs}
 use Rattle.vx_log.proofs.Commits.{body_free, put_more, certain_body}
-use Rattle.vx_log.proofs.Operations.{reads}
-use Rattle.vx_log.proofs.StageRuns.{body_stage, body_broken}
-use Rattle.vx_log.proofs.Times.{always}
+use Rattle.vx_log.proofs.CommitRuns.{stage_put, stage_passed, broken_passed}
 use Rattle.vx_log.proofs.laws.body_laws.Goals as goal
 
 pub returns-clause-free : goal.returns-clause-free
@@ -16,12 +12,7 @@ pub returns-clause-certain : goal.returns-clause-certain
 returns-clause-certain c = certain_body
 
 pub returns-clause-stage : goal.returns-clause-stage
-returns-clause-stage c = λ n r body first from end old new some order within room ran h.
-    body_stage n some r body room first (λ m image. ReadsAs n r image) (λ t s image is. reads n r t image s is) from end order within old new ran h
+returns-clause-stage c = λ n r batch from end old new fits order within ran h. (stage_put n r batch fits from end order within old new ran h, stage_passed n r batch fits from end order within old new ran h)
 
 pub returns-clause-broken : goal.returns-clause-broken
-returns-clause-broken c = λ n r body first from end old new some order within room broken h.
-    body_broken n some r body room first (λ m image. ReadsAs n r image) (λ t s image is. reads n r t image s is) from end order within old new broken h
-
-pub returns-clause-moments : goal.returns-clause-moments
-returns-clause-moments c = λ n r body first k t p. always first (λ (m : ℕ) (image : ℕ → List ℕ). ReadsAs n r image) t p.past (λ image is. reads n r t image p.stands is)
+returns-clause-broken c = λ n r batch from end old new fits order within broke h. broken_passed n r batch fits from end order within old new broke h

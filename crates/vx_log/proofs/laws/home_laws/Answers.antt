@@ -1,8 +1,6 @@
 use Rattle.std.proofs.Common.{[], refl, sym, ⊎_elim, inl, inr}
-use Rattle.vx_layout.specs.LogForms.{ReadsAs}
 use Rattle.vx_log.proofs.HomeWrites.{home_free, home_put, home_stable, all_home}
-use Rattle.vx_log.proofs.Operations.{reads}
-use Rattle.vx_log.proofs.StageRuns.{home_stage, home_broken}
+use Rattle.vx_log.proofs.CommitRuns.{homes_written, homes_passed, homes_broken}
 use Rattle.vx_log.proofs.laws.home_laws.Goals as goal
 
 pub returns-clause-free : goal.returns-clause-free
@@ -18,7 +16,7 @@ pub returns-clause-home : goal.returns-clause-home
 returns-clause-home c = λ n r t h each. all_home n r [] t h (λ s meta. ⊎_elim (λ unnamed. inl (λ x. sym (unnamed x))) (λ stable. inr (λ x may. stable x may)) (each s meta))
 
 pub returns-clause-stage : goal.returns-clause-stage
-returns-clause-stage c = λ n r writes first old new some homes ran h. home_stage n some r writes homes first (λ m image. ReadsAs n r image) (λ t s image is. reads n r t image s is) old new ran h
+returns-clause-stage c = λ n r writes old new some homes ran h. (homes_written n r some writes homes old new ran h, homes_passed n r some writes homes old new ran h)
 
 pub returns-clause-broken : goal.returns-clause-broken
-returns-clause-broken c = λ n r writes first old new some homes broken h. home_broken n some r writes homes first (λ m image. ReadsAs n r image) (λ t s image is. reads n r t image s is) old new broken h
+returns-clause-broken c = λ n r writes old new some homes broke h. homes_broken n r some writes homes old new broke h

@@ -1,0 +1,50 @@
+use Rattle.std.proofs.Common.{◌≡◌, ◌+◌, ℕ, List, sym, ◌∙◌, ap, subst}
+use Rattle.vx_dev.specs.declared.device.Operation.TheVariants.{Put}
+use Rattle.vx_dev.specs.Tape.{Did, Failed}
+use Rattle.vx_layout.specs.LogForms.{LogState, head_of, head_sector}
+use Rattle.vx_log.specs.Crashes.{emptied}
+use Rattle.vx_log.specs.Stages.{AreHomesPut}
+use Rattle.vx_log.proofs.CommitRuns.{tail_is, homes_settled, ready_passed, ready_failed, gate_done, gate_passed, gate_failed, turned_to, turned_passed, turned_failed, ReadsOne, on_ok, on_either}
+use Rattle.vx_log.proofs.Passing.{passed_join}
+use Rattle.vx_log.proofs.log.Log.empty.Goals as goal
+
+pub returns-in_err-barrier-clause-passed : goal.returns-in_err-barrier-clause-passed
+returns-in_err-barrier-clause-passed g c = λ r reading told.
+    ready_failed c.args.self.now.sectors r (emptied r) (AreHomesPut c.args.self.now.sectors r) (g.D.BlockDev.state c.args.dev.now) (g.D.BlockDev.state c.barrier.new.self) (λ t h. h.stands) c.in_err-barrier.ensures.nothing told
+
+pub returns-in_err-advance_tail-clause-passed : goal.returns-in_err-advance_tail-clause-passed
+returns-in_err-advance_tail-clause-passed g c = λ r reading told.
+    let n = c.args.self.now.sectors in
+    let d0 = g.D.BlockDev.state c.args.dev.now in
+    let d1 = g.D.BlockDev.state c.barrier.new.self in
+    let d2 = g.D.BlockDev.state c.advance_tail.new.dev in
+    let ready = homes_settled n r d0 d1 c.in_ok-barrier.ensures.passed told in
+    let failed : Failed 2 (head_of (emptied r)) d1 d2 = subst (λ (b : List ℕ). Failed 2 b d1 d2) (tail_is c.args.self.now r c.head-head.result reading c.head-head.ensures.number) c.in_err-advance_tail.ensures.failed in
+    passed_join (ReadsOne n r (emptied r)) d0 d1 d2 (ready_passed n r (emptied r) (AreHomesPut n r) d0 d1 (λ t h. h.stands) c.in_ok-barrier.ensures.passed told ready)
+    (gate_failed n r (emptied r) d1 d2 failed ready)
+
+pub returns-clause-stands : goal.returns-clause-stands
+returns-clause-stands g c = λ r reading told.
+    let n = c.args.self.now.sectors in
+    let d0 = g.D.BlockDev.state c.args.dev.now in
+    let d1 = g.D.BlockDev.state c.barrier.new.self in
+    let d2 = g.D.BlockDev.state c.advance_tail.new.dev in
+    let d3 = g.D.BlockDev.state c.barrier-2.new.self in
+    let ready = homes_settled n r d0 d1 c.in_ok-barrier.ensures.passed told in
+    let put : Did (Put 2 (head_of (emptied r))) d1 d2 = subst (λ (b : List ℕ). Did (Put 2 b) d1 d2) (tail_is c.args.self.now r c.head-head.result reading c.head-head.ensures.number) c.in_ok-advance_tail.ensures.put in
+    on_ok c.barrier-2.result (λ passed. turned_to n r (emptied r) d2 d3 passed (gate_done n r (emptied r) d1 d2 put ready)) c.barrier-2.ensures.passed
+
+pub returns-clause-passed : goal.returns-clause-passed
+returns-clause-passed g c = λ r reading told.
+    let n = c.args.self.now.sectors in
+    let d0 = g.D.BlockDev.state c.args.dev.now in
+    let d1 = g.D.BlockDev.state c.barrier.new.self in
+    let d2 = g.D.BlockDev.state c.advance_tail.new.dev in
+    let d3 = g.D.BlockDev.state c.barrier-2.new.self in
+    let ready = homes_settled n r d0 d1 c.in_ok-barrier.ensures.passed told in
+    let put : Did (Put 2 (head_of (emptied r))) d1 d2 = subst (λ (b : List ℕ). Did (Put 2 b) d1 d2) (tail_is c.args.self.now r c.head-head.result reading c.head-head.ensures.number) c.in_ok-advance_tail.ensures.put in
+    let turns = gate_done n r (emptied r) d1 d2 put ready in
+    let first = passed_join (ReadsOne n r (emptied r)) d0 d1 d2 (ready_passed n r (emptied r) (AreHomesPut n r) d0 d1 (λ t h. h.stands) c.in_ok-barrier.ensures.passed told ready)
+    (gate_passed n r (emptied r) d1 d2 put ready) in
+    passed_join (ReadsOne n r (emptied r)) d0 d2 d3 first
+    (on_either c.barrier-2.result c.barrier-2.ensures.passed c.barrier-2.ensures.nothing (λ passed. turned_passed n r (emptied r) d2 d3 passed turns) (λ nothing. turned_failed n r (emptied r) d2 d3 nothing turns))
