@@ -4,19 +4,24 @@ use Rattle.std.specs.Prelude.{◌||◌, ◌==◌, nat_lt, nat_le, is_some}
 use Rattle.std.specs.Option.{option_map, unwrap_or}
 use Rattle.std.specs.FinMap as map
 use Rattle.std.proofs.lemmas.Bool.{eq-eqb, ne_eqb, cases_eq, true≢false}
+use Rattle.std.proofs.lemmas.List.{length-map}
 use Rattle.vx_base.proofs.Maps.{at_key, at_other}
 use Rattle.vx_base.specs.Paths.{FileName}
 use Rattle.vx_base.specs.declared.refusal.Refusal.TheVariants as no
 use Rattle.vx_base.specs.declared.reply.Reply.TheVariants as say
 use Rattle.vx_base.specs.declared.inode.DirEntry.{DirEntry}
+use Rattle.vx_base.specs.declared.inode.Extent.{Extent}
+use Rattle.vx_base.specs.declared.inode.InodeValue.{InodeValue}
+use Rattle.vx_base.specs.declared.kind.FileKind.TheVariants as file_kind
+use Rattle.vx_base.specs.declared.kind.Kind.TheVariants.{Data}
 use Rattle.vx_layout.specs.Places.{unit_block, first_data, per_block}
 use Rattle.vx_model.specs.Outcome.{Maybe, unless, ◌>>=◌}
-use Rattle.vx_model.specs.Tree.{Node, Directory}
+use Rattle.vx_model.specs.Tree.{Node, Directory, IsDirectory, Entries, no_attrs}
 use Rattle.vx_model.specs.Layout.{DirectoryBlock, Layout, first_data_block, has_room, behind, with_entry, blocks_at, with_blocks, filled_or_new, add_entry}
 use Rattle.vx_model.specs.State.{State, Done}
 use Rattle.vx_model.specs.Making.{with_name, added, make_as}
 use Rattle.vx_model.specs.Images.{among, SameBut}
-use Rattle.vx_model.specs.Contents.{volume, block_numbers, inode_for, Claim, claim_among, or_claim, claim_below, claim_of, parsed_of, units_changed, entry_changes}
+use Rattle.vx_model.specs.Contents.{volume, block_numbers, first_extent, places, inode_for, inode_value, Claim, claim_among, or_claim, claim_below, claim_of, parsed_of, units_changed, inodes_changed, entry_changes}
 use Rattle.vx_model.proofs.Standing.{neither}
 
 -- ---- lists of blocks
@@ -125,6 +130,36 @@ module _ (l : Layout) (at : ℕ) (blocks : List DirectoryBlock) where
     | inr ne ↦ ap (λ ds. is_some (claim_among n b ds)) (other_at l at blocks n ne)
   ]) (128 * l.units)
 
+-- ---- a directory's inode
+
+numbers_length : (ds : List DirectoryBlock) → length (block_numbers ds) ≡ length ds
+numbers_length ds = length-map ds (λ (d : DirectoryBlock). d.block)
+
+abbrev extent_by : List ℕ → Option Extent
+extent_by [] = None
+extent_by (b ∷ bs) = Some (record { page = 0; start = b; len = 1; kind = Data })
+
+extent_is : (ds : List DirectoryBlock) → first_extent ds ≡ extent_by (block_numbers ds)
+extent_is [] = refl
+extent_is (d ∷ ds) = refl
+
+abbrev directory_by : ℕ → ℕ → Option Extent → InodeValue
+directory_by mode n first = record {
+  inode = record { kind = file_kind.Directory; mode = mode; nlink = 1; size = 1024 * n; attrs = no_attrs };
+  maps = 0;
+  extents = n;
+  first = places first;
+  map = None;
+}
+
+-- it says no more of the blocks than their numbers, and nothing of the names
+directory_same : (new old : List DirectoryBlock) (mode : ℕ) (names before : Entries) → block_numbers new ≡ block_numbers old
+    → inode_for new (IsDirectory (record { mode = mode; entries = names })) ≡ inode_for old (IsDirectory (record { mode = mode; entries = before }))
+directory_same new old mode names before same =
+    let n : length new ≡ length old = sym (numbers_length new) ∙ ap (λ (ns : List ℕ). length ns) same ∙ numbers_length old in
+    let first : first_extent new ≡ first_extent old = extent_is new ∙ ap extent_by same ∙ sym (extent_is old) in
+    λ i. directory_by mode (n i) (first i)
+
 -- ---- a new name
 
 -- the blocks of a directory after a new entry, by what `with_entry` says of those before
@@ -144,8 +179,9 @@ module _ (s : State) (at : ℕ) (d : Directory) (name : FileName) (node : Node) 
   abbrev pub entry : DirEntry
   entry = record { ino = ino; name = name }
 
-  -- what the blocks of the directory have to keep
-  record Keeps (blocks : List DirectoryBlock) (units : List ℕ) : Type 0 where
+  -- what is kept where the directory has these blocks then
+  record Keeps (blocks : List DirectoryBlock) (inodes units : List ℕ) : Type 0 where
+    same : (n : ℕ) → among inodes n ≡ false → inode_value (state_with (with_blocks s.layout at blocks)) n ≡ inode_value s n
     less : (b : ℕ) → among (block_numbers blocks) b ≡ false → among (block_numbers (blocks_at s.layout at)) b ≡ false
     used : (u j : ℕ) → j < 4096 → among units u ≡ false
         → among (block_numbers blocks) (unit_block (volume s.layout) u + j) ≡ among (block_numbers (blocks_at s.layout at)) (unit_block (volume s.layout) u + j)
@@ -153,13 +189,22 @@ module _ (s : State) (at : ℕ) (d : Directory) (name : FileName) (node : Node) 
   pub nodes_other : (n : ℕ) → n ≢ at → n ≢ ino → map.get (added s.tree at d name ino node).nodes n ≡ map.get s.tree.nodes n
   nodes_other n na ni = at_other (map.insert s.tree.nodes ino node) at (with_name d name ino) n na ∙ at_other s.tree.nodes ino node n ni
 
-  same_but : (blocks : List DirectoryBlock) (units : List ℕ) → Keeps blocks units
-      → SameBut (volume s.layout) (parsed_of s) (parsed_of (state_with (with_blocks s.layout at blocks))) (record { inodes = at ∷ ino ∷ []; blocks = block_numbers blocks; units = units })
-  same_but blocks units keeps = record {
-    inodes = λ n h.
-        let na = not_first n at (ino ∷ []) h in
-        let ni = not_first n ino [] (not_rest n at (ino ∷ []) h) in
-        λ i. option_map (inode_for (other_at s.layout at blocks n na i)) (nodes_other n na ni i);
+  inode_other : (blocks : List DirectoryBlock) (n : ℕ) → n ≢ at → n ≢ ino → inode_value (state_with (with_blocks s.layout at blocks)) n ≡ inode_value s n
+  inode_other blocks n na ni = λ i. option_map (inode_for (other_at s.layout at blocks n na i)) (nodes_other n na ni i)
+
+  -- the directory's own, where its blocks' numbers stay
+  inode_stays : (blocks : List DirectoryBlock) → map.get s.tree.nodes at ≡ Some (IsDirectory d) → block_numbers blocks ≡ block_numbers (blocks_at s.layout at)
+      → inode_value (state_with (with_blocks s.layout at blocks)) at ≡ inode_value s at
+  inode_stays blocks there same =
+      ap (option_map (inode_for (blocks_at (with_blocks s.layout at blocks) at))) (at_key (map.insert s.tree.nodes ino node) at (with_name d name ino))
+      ∙ ap (λ (bs : List DirectoryBlock). Some (inode_for bs (with_name d name ino))) (same_at s.layout at blocks)
+      ∙ ap Some (directory_same blocks (blocks_at s.layout at) d.mode (map.insert d.entries name ino) d.entries same)
+      ∙ ap (option_map (inode_for (blocks_at s.layout at))) (sym there)
+
+  same_but : (blocks : List DirectoryBlock) (inodes units : List ℕ) → Keeps blocks inodes units
+      → SameBut (volume s.layout) (parsed_of s) (parsed_of (state_with (with_blocks s.layout at blocks))) (record { inodes = inodes; blocks = block_numbers blocks; units = units })
+  same_but blocks inodes units keeps = record {
+    inodes = keeps.same;
     blocks = λ b h. ap (option_map (λ (c : Claim). c.entries)) (claims_same s.layout at blocks (λ n. keeps.less) b h);
     units = λ u j lt h.
         let b : ℕ = unit_block (volume s.layout) u + j in
@@ -169,21 +214,25 @@ module _ (s : State) (at : ℕ) (d : Directory) (name : FileName) (node : Node) 
         ∙ sym (some_map (λ (c : Claim). c.ino) (claim_of s.layout b)));
   }
 
-  abbrev Law : State → List ℕ → Type 0
-  Law new units = SameBut (volume s.layout) (parsed_of s) (parsed_of new) (record { inodes = at ∷ ino ∷ []; blocks = block_numbers (blocks_at new.layout at); units = units })
+  abbrev Law : State → List ℕ → List ℕ → Type 0
+  Law new inodes units = SameBut (volume s.layout) (parsed_of s) (parsed_of new) (record { inodes = inodes; blocks = block_numbers (blocks_at new.layout at); units = units })
 
   abbrev finish : Layout → Maybe Done
   finish layout = Ok (record { state = state_with layout; reply = say.Made ino })
 
-  law_with : (blocks : List DirectoryBlock) (units : List ℕ) → Keeps blocks units → Law (state_with (with_blocks s.layout at blocks)) units
-  law_with blocks units keeps =
-      let P : List DirectoryBlock → Type 0 = λ bs. SameBut (volume s.layout) (parsed_of s) (parsed_of (state_with (with_blocks s.layout at blocks))) (record { inodes = at ∷ ino ∷ []; blocks = block_numbers bs; units = units }) in
-      subst P (sym (same_at s.layout at blocks)) (same_but blocks units keeps)
+  law_with : (blocks : List DirectoryBlock) (inodes units : List ℕ) → Keeps blocks inodes units → Law (state_with (with_blocks s.layout at blocks)) inodes units
+  law_with blocks inodes units keeps =
+      let P : List DirectoryBlock → Type 0 = λ bs. SameBut (volume s.layout) (parsed_of s) (parsed_of (state_with (with_blocks s.layout at blocks))) (record { inodes = inodes; blocks = block_numbers bs; units = units }) in
+      subst P (sym (same_at s.layout at blocks)) (same_but blocks inodes units keeps)
 
-  filled_keeps : (filled : List DirectoryBlock) → with_entry (blocks_at s.layout at) entry ≡ Some filled → Keeps filled []
-  filled_keeps filled is =
+  filled_keeps : (filled : List DirectoryBlock) → map.get s.tree.nodes at ≡ Some (IsDirectory d) → with_entry (blocks_at s.layout at) entry ≡ Some filled → Keeps filled (ino ∷ []) []
+  filled_keeps filled there is =
       let same : block_numbers filled ≡ block_numbers (blocks_at s.layout at) = filled_numbers (blocks_at s.layout at) filled entry is in
       record {
+        same = λ n h. elim (cases_eq n at) [
+          | inl e ↦ subst (λ (k : ℕ). inode_value (state_with (with_blocks s.layout at filled)) k ≡ inode_value s k) (sym e) (inode_stays filled there same)
+          | inr na ↦ inode_other filled n na (not_first n ino [] h)
+        ];
         less = λ b h. subst (λ ns. among ns b ≡ false) same h;
         used = λ u j lt h. ap (λ ns. among ns (unit_block (volume s.layout) u + j)) same;
       }
@@ -191,8 +240,10 @@ module _ (s : State) (at : ℕ) (d : Directory) (name : FileName) (node : Node) 
   abbrev new_block : DirectoryBlock
   new_block = record { block = first_data_block s.layout; entries = entry ∷ [] }
 
-  new_keeps : Keeps (blocks_at s.layout at ++ new_block ∷ []) (0 ∷ [])
+  new_keeps : Keeps (blocks_at s.layout at ++ new_block ∷ []) (at ∷ ino ∷ []) (0 ∷ [])
   new_keeps = record {
+    same = λ n h.
+        inode_other (blocks_at s.layout at ++ new_block ∷ []) n (not_first n at (ino ∷ []) h) (not_first n ino [] (not_rest n at (ino ∷ []) h));
     less = λ b h. among_front b (blocks_at s.layout at) new_block h;
     used = λ u j lt h.
         let nu = not_first u 0 [] h in
@@ -214,9 +265,10 @@ module _ (s : State) (at : ℕ) (d : Directory) (name : FileName) (node : Node) 
       sym (ap (λ (x : Done). x.state) e)
   left_by None done h = limited (nat_le (length (blocks_at s.layout at) + 1) s.layout.directory_limit) done h
 
-  keeps_by : (o : Option (List DirectoryBlock)) → with_entry (blocks_at s.layout at) entry ≡ o → Keeps (next_blocks s.layout entry (blocks_at s.layout at) o) (units_changed o)
-  keeps_by (Some filled) is = filled_keeps filled is
-  keeps_by None is = new_keeps
+  keeps_by : (o : Option (List DirectoryBlock)) → map.get s.tree.nodes at ≡ Some (IsDirectory d) → with_entry (blocks_at s.layout at) entry ≡ o
+      → Keeps (next_blocks s.layout entry (blocks_at s.layout at) o) (inodes_changed at ino o) (units_changed o)
+  keeps_by (Some filled) there is = filled_keeps filled there is
+  keeps_by None there is = new_keeps
 
   room_by : (t : Bool) (done : Done)
       → unless t (no.NoInodes (128 * s.layout.units - 2)) (add_entry s.layout at entry >>= finish) ≡ Ok done
@@ -246,12 +298,12 @@ module _ (s : State) (at : ℕ) (d : Directory) (name : FileName) (node : Node) 
       → (nat_lt ino (128 * s.layout.units) ≡ true) × (done.state ≡ state_with (with_blocks s.layout at (next_blocks s.layout entry (blocks_at s.layout at) (with_entry (blocks_at s.layout at) entry))))
   made done h = room_by (nat_lt ino (128 * s.layout.units)) done h
 
-  pub make_changes : (done : Done) → make_as s at d name node ino ≡ Ok done
+  pub make_changes : (done : Done) → map.get s.tree.nodes at ≡ Some (IsDirectory d) → make_as s at d name node ino ≡ Ok done
       → SameBut (volume s.layout) (parsed_of s) (parsed_of done.state) (entry_changes s.layout at entry done.state.layout)
-  make_changes done h =
+  make_changes done there h =
       let o : Option (List DirectoryBlock) = with_entry (blocks_at s.layout at) entry in
-      subst (λ (new : State). Law new (units_changed (with_entry (blocks_at s.layout at) entry))) (sym (made done h).1)
-      (law_with (next_blocks s.layout entry (blocks_at s.layout at) (with_entry (blocks_at s.layout at) entry)) (units_changed (with_entry (blocks_at s.layout at) entry)) (keeps_by (with_entry (blocks_at s.layout at) entry) refl))
+      subst (λ (new : State). Law new (inodes_changed at ino o) (units_changed o)) (sym (made done h).1)
+      (law_with (next_blocks s.layout entry (blocks_at s.layout at) o) (inodes_changed at ino o) (units_changed o) (keeps_by o there refl))
 
   pub make_volume : (done : Done) → make_as s at d name node ino ≡ Ok done → volume done.state.layout ≡ volume s.layout
   make_volume done h = ap (λ (x : State). volume x.layout) (made done h).1

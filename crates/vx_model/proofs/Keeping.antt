@@ -235,7 +235,7 @@ pub made_reads : (s : State) (mode : ℕ) (done : Done) (batch : List AfterImage
 made_reads s mode done batch image is low m right stood =
     let ino : ℕ = lowest_unused s.layout.units s.tree.nodes in
     let same = make_volume s m.at m.directory m.name (new_file mode) (lowest_unused s.layout.units s.tree.nodes) done m.made in
-    let changed = make_changes s m.at m.directory m.name (new_file mode) (lowest_unused s.layout.units s.tree.nodes) done m.made in
+    let changed = make_changes s m.at m.directory m.name (new_file mode) (lowest_unused s.layout.units s.tree.nodes) done m.is_directory m.made in
     let after = batch_stands (volume s.layout) (parsed_of s) (parsed_of done.state)
     (entry_changes s.layout m.at (record { ino = lowest_unused s.layout.units s.tree.nodes; name = m.name }) done.state.layout) batch image changed right stood in
     subst (λ (v : Volume). ImageReadsAs v (overlaid batch image) done.state.tree) same

@@ -107,10 +107,15 @@ abbrev pub units_changed : Option (List DirectoryBlock) → List ℕ
 units_changed (Some filled) = []
 units_changed None = 0 ∷ []
 
--- the directory's inode and the new one, the blocks that the directory has then, and where no block had room the bitmap
+-- where a block had room, its directory's inode stays as it is
+abbrev pub inodes_changed : ℕ → ℕ → Option (List DirectoryBlock) → List ℕ
+inodes_changed at ino (Some filled) = ino ∷ []
+inodes_changed at ino None = at ∷ ino ∷ []
+
+-- the new inode, the blocks that the directory has then, and where no block had room the directory's inode and the bitmap
 abbrev pub entry_changes : Layout → ℕ → DirEntry → Layout → Changes
 entry_changes old at e new = record {
-  inodes = at ∷ e.ino ∷ [];
+  inodes = inodes_changed at e.ino (with_entry (blocks_at old at) e);
   blocks = block_numbers (blocks_at new at);
   units = units_changed (with_entry (blocks_at old at) e);
 }

@@ -1,9 +1,9 @@
 //! What an image of each state says.
-ghost use Rattle.std.specs.Prelude.{◌≡◌, ◌*◌, ◌<◌, ◌≤◌, ℕ, List, None, Ok};
+ghost use Rattle.std.specs.Prelude.{◌≡◌, ◌*◌, ◌<◌, ◌≤◌, ℕ, List, Some, None, Ok};
 ghost use Rattle.std.specs.FinMap as map;
 ghost use Rattle.vx_base.specs.Paths.{FileName};
 ghost use Rattle.vx_layout.specs.LogForms.{AfterImage};
-ghost use Rattle.vx_model.specs.Tree.{Directory, Node, Nodes, lowest_unused, new_file};
+ghost use Rattle.vx_model.specs.Tree.{Directory, Node, Nodes, IsDirectory, lowest_unused, new_file};
 ghost use Rattle.vx_model.specs.State.{State, Done, fresh};
 ghost use Rattle.vx_model.specs.Making.{make_as, create};
 ghost use Rattle.vx_model.specs.Images.{Stands, SameBut, IsBatch, overlaid};
@@ -25,14 +25,16 @@ pub fn fresh_reads()
         → ImageReadsAs (volume (fresh log_blocks limit).layout) image (fresh log_blocks limit).tree }
 {}
 
-/// A new name changes its own places alone: the two inodes' sectors, the directory's blocks, and the bitmap where no block had room.
+/// A new name changes its own places alone: the new inode, the directory's blocks, and where no block had room the directory's inode
+/// and the bitmap.
 pub fn make_changes()
-    ensures changes { (s : State) (at : ℕ) (d : Directory) (name : FileName) (node : Node) (ino : ℕ) (done : Done) → make_as s at d name node ino ≡ Ok done
+    ensures changes { (s : State) (at : ℕ) (d : Directory) (name : FileName) (node : Node) (ino : ℕ) (done : Done) → map.get s.tree.nodes at ≡ Some (IsDirectory d)
+        → make_as s at d name node ino ≡ Ok done
         → SameBut (volume s.layout) (parsed_of s) (parsed_of done.state) (entry_changes s.layout at (record { ino = ino; name = name }) done.state.layout) }
     ensures volume { (s : State) (at : ℕ) (d : Directory) (name : FileName) (node : Node) (ino : ℕ) (done : Done) → make_as s at d name node ino ≡ Ok done
         → volume done.state.layout ≡ volume s.layout }
     ensures stands { (s : State) (at : ℕ) (d : Directory) (name : FileName) (node : Node) (ino : ℕ) (done : Done) (batch : List AfterImage) (image : ℕ → List ℕ)
-        → make_as s at d name node ino ≡ Ok done
+        → map.get s.tree.nodes at ≡ Some (IsDirectory d) → make_as s at d name node ino ≡ Ok done
         → IsBatch (volume s.layout) (parsed_of done.state) (entry_changes s.layout at (record { ino = ino; name = name }) done.state.layout) batch
         → Stands (volume s.layout) (parsed_of s) image → Stands (volume s.layout) (parsed_of done.state) (overlaid batch image) }
 {}

@@ -14,3 +14,4 @@ pub mod Scripts
 pub mod Ending
 pub mod BitLaws
 pub mod SectorLaws
+pub mod StagedBatch

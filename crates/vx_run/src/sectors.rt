@@ -1,9 +1,12 @@
 //! The sectors that hold the metadata.
 ghost use Rattle.std.specs.Prelude.{◌≡◌, ◌<◌, ◌≤◌, ◌+◌, ◌*◌, [], length, All, ℕ};
 ghost use Rattle.vx_layout.specs.Dirs.{dir_bytes};
-ghost use Rattle.vx_model.specs.Contents.{inode_for, inode_value};
-ghost use Rattle.vx_model.specs.Tree.{Entries, IsDirectory};
+ghost use Rattle.vx_model.specs.Contents.{inode_for, inode_value, volume, parsed_of, entry_changes};
+ghost use Rattle.vx_model.specs.Images.{IsBatch};
+ghost use Rattle.vx_model.specs.LaidOut.{IsLaidOut, Makes};
 ghost use Rattle.vx_model.specs.Layout.{used_by};
+ghost use Rattle.vx_model.specs.State.{State, Done};
+ghost use Rattle.vx_model.specs.Tree.{Entries, IsDirectory, lowest_unused, new_file};
 ghost use Rattle.vx_run.specs.Metadata.{state_of};
 ghost use Rattle.vx_run.specs.Sectors.{root_blocks, bitmap_bytes, pair_bytes, first_images, transaction_of};
 ghost use Rattle.vx_run.specs.Devices.{IsTransaction, IsPart};
@@ -15,6 +18,7 @@ use vx_base::{
 };
 use vx_codec::{inode_sector, sector_part, write_bits, write_dir};
 use vx_log::Batch;
+use vx_model::images::{sector_contents, whole_batch};
 
 /// The sector of the unit's bitmap.
 const BITMAP: u32 = 1028;
@@ -35,14 +39,18 @@ const NO_ATTRS: ExtAttrs = ExtAttrs {
     flags: 0,
 };
 
-/// Puts the sectors that a create has changed into a batch: those of the two inodes and of the root's block, and the bitmap with
-/// the root's first entry.
+/// Puts the sectors that a create has changed into a batch: those of the new inode and of the root's block, and with the root's
+/// first entry the bitmap and the root's inode.
 pub fn stage(batch: &mut Batch, metadata: &Metadata, made: u32)
     requires empty { batch.old ≡ [] }
     requires inode { made < 128 }
     ensures transaction { IsTransaction batch.new }
     ensures images { batch.new ≡ transaction_of (state_of metadata.now) metadata.now.entries.items made }
+    ensures batch { (s : State) (mode : ℕ) (done : Done) → IsLaidOut s → (m : Makes s (new_file mode) done) → state_of metadata.now ≡ done.state → made ≡ lowest_unused s.layout.units s.tree.nodes
+        → IsBatch (volume s.layout) (parsed_of done.state) (entry_changes s.layout m.at (record { ino = made; name = m.name }) done.state.layout) batch.new }
 {
+    sector_contents();
+    whole_batch();
     stage_first(batch, metadata);
     batch.set(
         SectorNo::new(INODES + made / 2),

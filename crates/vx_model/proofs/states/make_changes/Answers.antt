@@ -10,6 +10,6 @@ pub returns-clause-volume : goal.returns-clause-volume
 returns-clause-volume c = laws.make_volume
 
 pub returns-clause-stands : goal.returns-clause-stands
-returns-clause-stands c = λ s at d name node ino done batch image made is stood.
+returns-clause-stands c = λ s at d name node ino done batch image there made is stood.
     batch_stands (volume s.layout) (parsed_of s) (parsed_of done.state) (entry_changes s.layout at (record { ino = ino; name = name }) done.state.layout) batch image
-    (laws.make_changes s at d name node ino done made) is stood
+    (laws.make_changes s at d name node ino done there made) is stood
