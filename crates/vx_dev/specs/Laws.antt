@@ -1,0 +1,17 @@
+-- What an operation does to what a crash may leave. All above the devices rests on this alone.
+use Rattle.std.specs.Prelude.{◌≡◌, ◌≢◌, ◌⊎◌, ℕ, List}
+use Rattle.vx_dev.specs.declared.device.Operation.TheVariants.{Put, Barrier}
+use Rattle.vx_dev.specs.Tape.{Tape, did, MayHold, now, Settles, tried}
+
+pub record TapeLaws : Type 0 where
+  -- what is put is what a barrier leaves, and other sectors stay
+  pub put_settles : (t : Tape) (s : ℕ) (bytes : List ℕ) → Settles (did (Put s bytes) t) s bytes
+  pub put_elsewhere : (t : Tape) (u s : ℕ) (bytes x : List ℕ) → s ≢ u → Settles t s x → Settles (did (Put u bytes) t) s x
+  pub barrier_settles : (t : Tape) (s : ℕ) (x : List ℕ) → Settles t s x → Settles (did Barrier t) s x
+  -- a write, and one that failed, adds its bytes to what its sector may hold
+  pub put_adds : (t : Tape) (u s : ℕ) (bytes x : List ℕ) → MayHold (did (Put u bytes) t) s x → MayHold t s x ⊎ ((s ≡ u) × (x ≡ bytes))
+  pub failed_adds : (t : Tape) (u s : ℕ) (bytes x : List ℕ) → MayHold (did (tried u bytes) t) s x → MayHold t s x ⊎ ((s ≡ u) × (x ≡ bytes))
+  -- a barrier adds nothing, and leaves one value
+  pub barrier_adds : (t : Tape) (s : ℕ) (x : List ℕ) → MayHold (did Barrier t) s x → MayHold t s x
+  pub barrier_leaves_one : (t : Tape) (s : ℕ) (x : List ℕ) → MayHold (did Barrier t) s x → x ≡ now (did Barrier t) s
+  pub now_may : (t : Tape) (s : ℕ) → MayHold t s (now t s)
