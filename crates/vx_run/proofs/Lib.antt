@@ -15,3 +15,4 @@ pub mod Ending
 pub mod BitLaws
 pub mod SectorLaws
 pub mod StagedBatch
+pub mod Formatted

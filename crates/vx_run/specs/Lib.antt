@@ -12,3 +12,4 @@ pub mod Reads
 pub mod Ends
 pub mod Outcomes
 pub mod Sectors
+pub mod Formats

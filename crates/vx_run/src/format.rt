@@ -5,6 +5,7 @@ ghost use Rattle.vx_run.specs.Devices.{Onward};
 ghost use Rattle.vx_log.specs.Logs.{fresh_log};
 ghost use Rattle.vx_log.specs.Moments.{Told};
 ghost use Rattle.vx_model.specs.State.{fresh};
+ghost use Rattle.vx_run.specs.Formats.{HasUnit};
 ghost use Rattle.vx_run.specs.Journals.{IsKept};
 ghost use Rattle.vx_run.specs.Sectors.{unit_bytes};
 ghost use Rattle.vx_run.specs.States.{new_log_blocks};
@@ -12,9 +13,10 @@ ghost use Rattle.vx_run.specs.States.{new_log_blocks};
 use crate::device::{pass, put};
 use crate::sectors::{bits_of_unit, directory_value};
 use vx_codec::inode_sector;
-use vx_dev::{BlockDev, DevFault};
-use vx_layout::Super;
+use vx_dev::{BlockDev, DevFault, tape_laws};
+use vx_layout::{Super, super_places};
 use vx_log::head_sector;
+use vx_model::{images, states};
 
 /// The log's blocks.
 pub const LOG_BLOCKS: u32 = 512;
@@ -47,11 +49,13 @@ fn unit_sector(i: u64) -> [u8; 512]
 /// Writes the sectors of a new unit: its bitmap and its inodes.
 fn put_unit<D: BlockDev>(dev: &mut D) -> Result<(), DevFault>
     requires { 9220 ≤ (D.state dev.old).size }
+    ensures unit { OnOk result (Told (D.state dev.new) (HasUnit 66)) }
     ensures onward { Onward (D.state dev.old) (D.state dev.new) }
     ensures count { OnOk result ((D.state dev.new).count ≡ (D.state dev.old).count + 66) }
     ensures most { OnErr result ((D.state dev.new).count ≤ (D.state dev.old).count + 66) }
     ensures cause { HasCause (D.state dev.old).write_faults (D.state dev.new).write_faults result }
 {
+    tape_laws();
     for i in 0..66u64 {
         put(dev, 1028 + i, &unit_sector(i))?;
     }
@@ -67,6 +71,10 @@ pub fn format<D: BlockDev>(dev: &mut D) -> Result<(), DevFault>
     ensures kept { OnOk result (Told (D.state dev.new) (IsKept (fresh_log 1024) (replicate 68 None) (fresh new_log_blocks 1))) }
     ensures cause { HasCause (D.state dev.old).write_faults (D.state dev.new).write_faults result }
 {
+    tape_laws();
+    states::fresh_reads();
+    images::metadata();
+    super_places();
     put_unit(dev)?;
     put(dev, 2, &head_sector(1, 0, 0))?;
     pass(dev)?;

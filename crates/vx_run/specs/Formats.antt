@@ -1,0 +1,17 @@
+-- A device as formatting leaves it.
+use Rattle.std.specs.Prelude.{◌≡◌, ◌+◌, ◌<◌, ℕ, List, false}
+use Rattle.vx_dev.specs.Tape.{Tape, MayHold, Settles}
+use Rattle.vx_layout.specs.LogForms.{head_sector}
+use Rattle.vx_layout.specs.Supers.{super_bytes}
+use Rattle.vx_run.specs.Journals.{superblock_of}
+use Rattle.vx_run.specs.Sectors.{unit_bytes}
+
+-- a barrier now would leave the first n sectors of a new unit
+abbrev pub HasUnit : ℕ → Tape → Type 0
+HasUnit n t = (i : ℕ) → i < n → Settles t (1028 + i) (unit_bytes i)
+
+-- a crash leaves the sectors of a new unit, the head of an empty log and the superblock of a mounted file system, and nothing else there
+pub record IsNewImage (t : Tape) : Type 0 where
+  pub unit : (i : ℕ) (x : List ℕ) → i < 66 → MayHold t (1028 + i) x → x ≡ unit_bytes i
+  pub head : (x : List ℕ) → MayHold t 2 x → x ≡ head_sector 1 0 0
+  pub superblock : (x : List ℕ) → MayHold t 0 x → x ≡ super_bytes (superblock_of false)
