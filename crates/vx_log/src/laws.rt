@@ -26,6 +26,7 @@ pub fn image_laws()
     ensures either { (n : ℕ) (r r2 : LogState) (t : Tape) (image : ℕ → List ℕ) → Either n r r2 t → IsImage t image → ReadsAs n r image ⊎ ReadsAs n r2 image }
     ensures written { (n : ℕ) (r : LogState) (t : Tape) (op : Operation) (u : ℕ) (bytes : List ℕ) → Writes op u bytes → IsFree n r u → u ≢ 2 → Stands n r t → Stands n r (did op t) }
     ensures barrier { (n : ℕ) (r : LogState) (t : Tape) → Stands n r t → Stands n r (did Barrier t) }
+    ensures fewer { (n : ℕ) (r : LogState) (is_metadata : ℕ → Bool) (t : Tape) → ((s : ℕ) → IsTrue (is_metadata s) → IsTrue (r.is_metadata s)) → Stands n r t → Stands n (record r { is_metadata = is_metadata }) t }
 {}
 
 /// A batch's log sectors are written, one by one and in stages, and a barrier passes behind them.

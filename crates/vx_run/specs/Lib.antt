@@ -13,3 +13,4 @@ pub mod Ends
 pub mod Outcomes
 pub mod Sectors
 pub mod Formats
+pub mod JournalLaws

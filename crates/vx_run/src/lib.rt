@@ -7,6 +7,7 @@ mod format;
 mod gate;
 mod homes;
 mod kernel;
+mod laws;
 mod metadata;
 mod names;
 mod node;

@@ -12,3 +12,15 @@ returns-clause-written c = stands_put
 
 pub returns-clause-barrier : goal.returns-clause-barrier
 returns-clause-barrier c = stands_barrier
+
+pub returns-clause-fewer : goal.returns-clause-fewer
+returns-clause-fewer c = λ n r is_metadata t less s. record {
+  holds = record {
+    apart = λ u there. s.holds.apart u (less u there);
+    ends = s.holds.ends;
+    fits = s.holds.fits;
+    whole = s.holds.whole;
+    metadata = λ u x there may. s.holds.metadata u x (less u there) may;
+  };
+  head_is = s.head_is;
+}

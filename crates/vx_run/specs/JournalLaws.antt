@@ -1,0 +1,50 @@
+-- What a journal rests on: laws of the tape, of the log and of images, as it uses them.
+use Rattle.std.specs.Prelude.{◌≡◌, ◌≢◌, ◌⊎◌, ◌<◌, ◌≤◌, ◌++◌, ℕ, Bool, true, false, IsTrue, List, length, Contains}
+use Rattle.vx_dev.specs.declared.device.Operation.{Operation}
+use Rattle.vx_dev.specs.declared.device.Operation.TheVariants.{Put, Barrier}
+use Rattle.vx_dev.specs.Laws.{TapeLaws}
+use Rattle.vx_dev.specs.Tape.{Tape, State as Device, Writes, did, IsImage}
+use Rattle.vx_layout.specs.LogForms.{AfterImage, LogState, ReadsAs, records_of, overlay, overlay_all}
+use Rattle.vx_layout.specs.Places.{Volume}
+use Rattle.vx_layout.specs.Supers.{volume_of}
+use Rattle.vx_log.specs.Batches.{sectors_of}
+use Rattle.vx_log.specs.Crashes.{Stands, IsDecided, IsFree}
+use Rattle.vx_log.specs.Moments.{Told, Passed}
+use Rattle.vx_log.specs.Runs.{Ran, BrokeOff, puts}
+use Rattle.vx_log.specs.Stages.{AreHomes, AreWritten}
+use Rattle.vx_model.specs.Contents.{volume, parsed_of}
+use Rattle.vx_model.specs.Images as images
+use Rattle.vx_model.specs.Images.{Parsed, is_metadata, Changes, SameBut, IsBatch, Says}
+use Rattle.vx_model.specs.LaidOut.{IsLaidOut}
+use Rattle.vx_model.specs.Reads.{ImageReadsAs}
+use Rattle.vx_model.specs.State.{State}
+use Rattle.vx_run.specs.Journals.{superblock_of}
+
+-- the volume of each new file system
+abbrev pub unit_volume : Volume
+unit_volume = volume_of (superblock_of false)
+
+pub record JournalLaws : Type 0 where
+  -- ---- images
+  pub past_log : (p : Parsed) (s : ℕ) → IsTrue (is_metadata unit_volume p s) → 1028 ≤ s
+  pub says_stands : (p : Parsed) (r : LogState) (image : ℕ → List ℕ) → Says unit_volume p r → ReadsAs 1024 r image → images.Stands unit_volume p (λ s. overlay_all r.records s (image s))
+  pub says_next : (old new : Parsed) (c : Changes) (batch : List AfterImage) (r next : LogState) → Says unit_volume old r → SameBut unit_volume old new c → IsBatch unit_volume new c batch
+      → ((s : ℕ) → IsTrue (is_metadata unit_volume new s) → IsTrue (next.is_metadata s)) → ((s : ℕ) → next.contents s ≡ overlay batch s (r.contents s)) → Says unit_volume new next
+  pub covered : (old new : Parsed) (c : Changes) (batch : List AfterImage) → SameBut unit_volume old new c → IsBatch unit_volume new c batch
+      → (s : ℕ) → IsTrue (is_metadata unit_volume new s) → IsTrue (is_metadata unit_volume old s) ⊎ ((x y : List ℕ) → overlay batch s x ≡ overlay batch s y)
+  pub reads : (s : State) (image : ℕ → List ℕ) → IsLaidOut s → images.Stands (volume s.layout) (parsed_of s) image → ImageReadsAs (volume s.layout) image s.tree
+  -- ---- batches
+  pub records : (batch : List AfterImage) (s : ℕ) (x : List ℕ) → overlay_all (records_of batch) s x ≡ overlay batch s x
+  pub lacks : (batch : List AfterImage) (s : ℕ) (x : List ℕ) → (Contains (sectors_of batch) s → ⊥) → overlay batch s x ≡ x
+  pub decides : (batch : List AfterImage) (s : ℕ) → Contains (sectors_of batch) s → IsDecided (records_of batch) s
+  -- ---- the log
+  pub image_reads : (r : LogState) (t : Tape) (image : ℕ → List ℕ) → Stands 1024 r t → IsImage t image → ReadsAs 1024 r image
+  pub written : (r : LogState) (t : Tape) (op : Operation) (u : ℕ) (bytes : List ℕ) → Writes op u bytes → IsFree 1024 r u → u ≢ 2 → Stands 1024 r t → Stands 1024 r (did op t)
+  pub barrier : (r : LogState) (t : Tape) → Stands 1024 r t → Stands 1024 r (did Barrier t)
+  pub fewer : (r : LogState) (is_metadata : ℕ → Bool) (t : Tape) → ((s : ℕ) → IsTrue (is_metadata s) → IsTrue (r.is_metadata s)) → Stands 1024 r t → Stands 1024 (record r { is_metadata = is_metadata }) t
+  pub homes : (r : LogState) (writes : List (ℕ × List ℕ)) (old new : Device) → AreHomes r writes → Ran (puts writes) old new
+      → Told old (Stands 1024 r) → Told new (AreWritten 1024 r writes) × Passed (ReadsAs 1024 r) old new
+  pub homes_broken : (r : LogState) (writes : List (ℕ × List ℕ)) (old new : Device) → AreHomes r writes → BrokeOff writes old new
+      → Told old (Stands 1024 r) → Passed (ReadsAs 1024 r) old new
+  -- ---- the tape
+  pub tape : TapeLaws

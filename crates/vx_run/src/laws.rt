@@ -1,0 +1,22 @@
+//! What a journal rests on, from the crates below.
+ghost use Rattle.vx_run.specs.JournalLaws.{JournalLaws};
+
+use vx_dev::tape_laws;
+use vx_layout::super_places;
+use vx_log::{batch_laws, home_laws, image_laws};
+use vx_model::images::{log_says, metadata};
+use vx_model::states::state_reads;
+
+/// The laws of the tape, of the log and of images, as a journal uses them.
+pub fn journal_laws()
+    ensures { JournalLaws }
+{
+    tape_laws();
+    super_places();
+    batch_laws();
+    home_laws();
+    image_laws();
+    log_says();
+    metadata();
+    state_reads();
+}
