@@ -5,3 +5,4 @@ pub mod Crashes
 pub mod Moments
 pub mod Stages
 pub mod Readings
+pub mod RunLaws

@@ -8,6 +8,7 @@ ghost use Rattle.vx_log.specs.Batches.{sectors_of, batch_set, IsBatch};
 ghost use Rattle.vx_log.specs.Crashes.{IsApart, Holds, Stands, Either, Turns, IsDecided, IsFree, grown, Covers, trimmed, emptied, IsPut, IsCertainBody, IsPutHome, IsStableHome, IsHome, IsHomeBut};
 ghost use Rattle.vx_log.specs.Logs.{next_serial};
 ghost use Rattle.vx_log.specs.Moments.{Told, Passed};
+ghost use Rattle.vx_log.specs.RunLaws.{RunLaws};
 ghost use Rattle.vx_log.specs.Runs.{Ran, BrokeOff, puts, log_writes};
 ghost use Rattle.vx_log.specs.Stages.{IsBodyPut, IsFitting, AreHomes, AreWritten};
 
@@ -65,4 +66,9 @@ pub fn home_laws()
         → Told old (Stands n r) → Told new (AreWritten n r writes) × Passed (ReadsAs n r) old new }
     ensures broken { (n : ℕ) (r : LogState) (writes : List (ℕ × List ℕ)) (old new : State) → 0 < n → AreHomes r writes → BrokeOff writes old new
         → Told old (Stands n r) → Passed (ReadsAs n r) old new }
+{}
+
+/// How runs of operations grow, and how they break off.
+pub fn run_laws()
+    ensures { RunLaws }
 {}

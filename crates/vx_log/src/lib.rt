@@ -15,7 +15,7 @@ mod stage;
 pub use batch::Batch;
 pub use body::log_length;
 pub use head::head_sector;
-pub use laws::{batch_laws, body_laws, head_laws, home_laws, image_laws};
+pub use laws::{batch_laws, body_laws, head_laws, home_laws, image_laws, run_laws};
 pub use log::Log;
 
 #[cfg(test)]
