@@ -16,3 +16,4 @@ pub mod BitLaws
 pub mod SectorLaws
 pub mod StagedBatch
 pub mod Formatted
+pub mod HomeRuns

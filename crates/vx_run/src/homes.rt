@@ -10,6 +10,7 @@ use std::alloc::{AllocError, Global};
 use std::marker::Model;
 use vx_base::SectorNo;
 use vx_dev::{BlockDev, DevFault};
+use vx_log::run_laws;
 
 /// The first sector that may be noted: the bitmap's.
 pub const FIRST_HOME: u32 = 1028;
@@ -80,6 +81,7 @@ fn put_images<D: BlockDev>(dev: &mut D, images: &[Option<[u8; 512]>]) -> Result<
     ensures onward { Onward (D.state dev.old) (D.state dev.new) }
     ensures cause { HasCause (D.state dev.old).write_faults (D.state dev.new).write_faults result }
 {
+    run_laws();
     for i in 0..HOMES {
         if let Some(image) = &images[i as usize] {
             put(dev, u64::from(FIRST_HOME + i), image)?;
