@@ -55,6 +55,7 @@ fn put_unit<D: BlockDev>(dev: &mut D) -> Result<(), DevFault>
     ensures most { OnErr result ((D.state dev.new).count ≤ (D.state dev.old).count + 66) }
     ensures cause { HasCause (D.state dev.old).write_faults (D.state dev.new).write_faults result }
 {
+    // The proof rests on this law; nothing runs here.
     tape_laws();
     for i in 0..66u64 {
         put(dev, 1028 + i, &unit_sector(i))?;
@@ -71,6 +72,7 @@ pub fn format<D: BlockDev>(dev: &mut D) -> Result<(), DevFault>
     ensures kept { OnOk result (Told (D.state dev.new) (IsKept (fresh_log 1024) (replicate 68 None) (fresh new_log_blocks 1))) }
     ensures cause { HasCause (D.state dev.old).write_faults (D.state dev.new).write_faults result }
 {
+    // The proof rests on these laws; nothing runs here.
     tape_laws();
     states::fresh_reads();
     images::metadata();

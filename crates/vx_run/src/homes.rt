@@ -81,6 +81,7 @@ fn put_images<D: BlockDev>(dev: &mut D, images: &[Option<[u8; 512]>]) -> Result<
     ensures onward { Onward (D.state dev.old) (D.state dev.new) }
     ensures cause { HasCause (D.state dev.old).write_faults (D.state dev.new).write_faults result }
 {
+    // The proof rests on this law; nothing runs here.
     run_laws();
     for i in 0..HOMES {
         if let Some(image) = &images[i as usize] {
