@@ -1,7 +1,7 @@
 -- What an operation does to what a crash may leave. All above the devices rests on this alone.
 use Rattle.std.specs.Prelude.{◌≡◌, ◌≢◌, ◌⊎◌, ℕ, List}
 use Rattle.vx_dev.specs.declared.device.Operation.TheVariants.{Put, Barrier}
-use Rattle.vx_dev.specs.Tape.{Tape, did, MayHold, now, Settles, tried}
+use Rattle.vx_dev.specs.Tape.{Tape, did, MayHold, now, Settles, Writes, tried}
 
 pub record TapeLaws : Type 0 where
   -- what is put is what a barrier leaves, and other sectors stay
@@ -11,6 +11,8 @@ pub record TapeLaws : Type 0 where
   -- a write, and one that failed, adds its bytes to what its sector may hold
   pub put_adds : (t : Tape) (u s : ℕ) (bytes x : List ℕ) → MayHold (did (Put u bytes) t) s x → MayHold t s x ⊎ ((s ≡ u) × (x ≡ bytes))
   pub failed_adds : (t : Tape) (u s : ℕ) (bytes x : List ℕ) → MayHold (did (tried u bytes) t) s x → MayHold t s x ⊎ ((s ≡ u) × (x ≡ bytes))
+  pub put_writes : (u : ℕ) (bytes : List ℕ) → Writes (Put u bytes) u bytes
+  pub failed_writes : (u : ℕ) (bytes : List ℕ) → Writes (tried u bytes) u bytes
   -- a barrier adds nothing, and leaves one value
   pub barrier_adds : (t : Tape) (s : ℕ) (x : List ℕ) → MayHold (did Barrier t) s x → MayHold t s x
   pub barrier_leaves_one : (t : Tape) (s : ℕ) (x : List ℕ) → MayHold (did Barrier t) s x → x ≡ now (did Barrier t) s

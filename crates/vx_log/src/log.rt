@@ -96,7 +96,8 @@ impl Log {
 
     /// The free sectors of the log.
     pub fn room(&self) -> u32
-        ensures { result ≡ self.now.sectors - (self.now.head - self.now.tail) }
+        ensures number { result ≡ self.now.sectors - (self.now.head - self.now.tail) }
+        ensures log { IsLog self.now }
     {
         self.sectors - (self.head - self.tail) as u32
     }

@@ -17,3 +17,4 @@ pub mod SectorLaws
 pub mod StagedBatch
 pub mod Formatted
 pub mod HomeRuns
+pub mod KeptLaws

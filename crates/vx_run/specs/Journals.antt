@@ -40,6 +40,7 @@ superblock_of clean = record { log_blocks = new_log_blocks; units = 1; clean = c
 -- a create of the inode `made` has led from the one state to the other
 pub record IsMade (s new : State) (made : ℕ) : Type 0 where
   pub mounted : IsMounted s
+  pub new_mounted : IsMounted new
   pub mode : ℕ
   pub mode_limit : mode ≤ 4095
   pub done : Done

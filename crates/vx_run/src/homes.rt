@@ -47,6 +47,14 @@ impl Homes {
         Ok(Homes { images })
     }
 
+    /// The sectors that have a place: the unit's and those of the root's block.
+    pub fn len(&self) -> usize
+        ensures number { result ≡ length self.now }
+        ensures count { length self.now ≡ 68 }
+    {
+        self.images.len()
+    }
+
     /// Notes what a sector is to hold.
     pub fn note(&mut self, s: SectorNo, image: &[u8; 512])
         requires low { 1028 ≤ s }

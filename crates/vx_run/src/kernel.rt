@@ -6,16 +6,19 @@ ghost use Rattle.vx_log.specs.Moments.{Told, Passed};
 ghost use Rattle.vx_model.specs.Replays.{ReplaysAs};
 ghost use Rattle.vx_model.specs.State.{State};
 ghost use Rattle.vx_run.specs.Devices.{Onward};
+ghost use Rattle.vx_run.specs.Noted.{with_notes};
 
 use crate::device::{pass, put};
 use crate::format::{LOG_BLOCKS, superblock};
 use crate::homes::Homes;
+use crate::laws::journal_laws;
 use crate::metadata::Metadata;
 use crate::sectors::stage;
 use std::alloc::{AllocError, Global};
 use vx_base::SectorNo;
 use vx_dev::{BlockDev, DevFault};
 use vx_log::{Batch, Log, log_length};
+use vx_model::states::make_changes;
 
 /// What a mount needs beside its device to make transactions durable.
 #[derive(Drop)]
@@ -62,16 +65,41 @@ impl Journal {
         ensures onward { Onward (D.state dev.old) (D.state dev.new) }
         ensures cause { HasCause (D.state dev.old).write_faults (D.state dev.new).write_faults result }
     {
+        // What the proof rests on; nothing is done here.
+        journal_laws();
+        make_changes();
         let Some(mut batch) = self.ready.take() else {
             unreachable!()
         };
         stage(&mut batch, metadata, made);
-        if self.log.room() < log_length(batch.len()) {
-            self.empty(dev)?;
-        }
+        self.make_room(dev, log_length(batch.len()))?;
+        let _places = self.homes.len();
         note_all(&mut self.homes, batch.entries());
         self.log.commit(dev, batch)?;
         self.ready = self.log.take_back();
+        Ok(())
+    }
+
+    /// Empties the log where it has no room for so many sectors.
+    fn make_room<D: BlockDev>(&mut self, dev: &mut D, sectors: u32) -> Result<(), DevFault>
+        requires idle { IsIdle self.old }
+        requires few { sectors ≤ 1024 }
+        requires size { 9220 ≤ (D.state dev.old).size }
+        ensures idle { OnOk result (IsIdle self.new) }
+        ensures ready { self.new.ready ≡ self.old.ready }
+        ensures room { OnOk result (self.new.log.head + sectors ≤ self.new.log.tail + 1024) }
+        ensures head { self.new.log.head ≡ self.old.log.head }
+        ensures kept { (s : State) → IsMounted s → Told (D.state dev.old) (IsKept self.old.log self.old.homes s)
+            → OnOk result (Told (D.state dev.new) (IsKept self.new.log self.new.homes s)) }
+        ensures passed { (s : State) → IsMounted s → Told (D.state dev.old) (IsKept self.old.log self.old.homes s)
+            → Passed (λ image. ReplaysAs image s.tree) (D.state dev.old) (D.state dev.new) }
+        ensures onward { Onward (D.state dev.old) (D.state dev.new) }
+        ensures cause { HasCause (D.state dev.old).write_faults (D.state dev.new).write_faults result }
+    {
+        journal_laws();
+        if self.log.room() < sectors {
+            return self.empty(dev);
+        }
         Ok(())
     }
 
@@ -90,6 +118,7 @@ impl Journal {
         ensures onward { Onward (D.state dev.old) (D.state dev.new) }
         ensures cause { HasCause (D.state dev.old).write_faults (D.state dev.new).write_faults result }
     {
+        journal_laws();
         if self.log.tail() == self.log.head() {
             return Ok(());
         }
@@ -108,6 +137,7 @@ impl Journal {
         ensures onward { Onward (D.state dev.old) (D.state dev.new) }
         ensures cause { HasCause (D.state dev.old).write_faults (D.state dev.new).write_faults result }
     {
+        journal_laws();
         self.empty(dev)?;
         put(dev, 0, &superblock(true).write())?;
         pass(dev)
@@ -117,6 +147,7 @@ impl Journal {
 /// Notes what the sectors of a transaction are to hold.
 fn note_all(homes: &mut Homes, entries: &[(SectorNo, [u8; 512])])
     requires { All (λ e. (1028 ≤ e.0) × (e.0 < 1096)) entries.now }
+    ensures { homes.new ≡ with_notes homes.old entries.now }
 {
     for entry in entries {
         homes.note(entry.0, &entry.1);

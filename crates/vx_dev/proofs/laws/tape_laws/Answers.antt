@@ -1,5 +1,5 @@
 use Rattle.std.proofs.Common.{sym, ◌∙◌}
-use Rattle.vx_dev.proofs.Tapes.{may_now, now-barrier, may_put, may_barrier, may_less, settles_put, settles_put_other, settles_barrier, tried_writes}
+use Rattle.vx_dev.proofs.Tapes.{may_now, now-barrier, may_put, may_barrier, may_less, settles_put, settles_put_other, settles_barrier, put_writes, tried_writes}
 use Rattle.vx_dev.proofs.laws.tape_laws.Goals as goal
 
 pub returns : goal.returns
@@ -9,6 +9,8 @@ returns c = record {
   barrier_settles = settles_barrier;
   put_adds = may_put;
   failed_adds = λ t u s bytes x may. (tried_writes u bytes).may t s x may;
+  put_writes = put_writes;
+  failed_writes = tried_writes;
   barrier_adds = may_less;
   barrier_leaves_one = λ t s x may. may_barrier t s x may ∙ sym (now-barrier t s);
   now_may = may_now;

@@ -13,6 +13,7 @@ returns c = record {
   records = c.batch_laws.ensures.records;
   lacks = c.batch_laws.ensures.lacks;
   decides = c.batch_laws.ensures.decides;
+  length = c.batch_laws.ensures.length;
   image_reads = λ r t image stands is. c.image_laws.ensures.stands 1024 r t image stands is;
   written = λ r t op u bytes writes free other stands. c.image_laws.ensures.written 1024 r t op u bytes writes free other stands;
   barrier = λ r t stands. c.image_laws.ensures.barrier 1024 r t stands;
