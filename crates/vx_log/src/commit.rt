@@ -33,6 +33,7 @@ impl Log {
         ensures reads { (D.state dev.new).read_faults ≡ (D.state dev.old).read_faults }
         ensures cause { HasCause (D.state dev.old).write_faults (D.state dev.new).write_faults result }
     {
+        // The proof wants to know that the log has sectors.
         let _head = self.head();
         self.close_batch(batch);
         put_all(self, dev)?;
@@ -57,8 +58,8 @@ impl Log {
         ensures reads { (D.state dev.new).read_faults ≡ (D.state dev.old).read_faults }
         ensures cause { HasCause (D.state dev.old).write_faults (D.state dev.new).write_faults result }
     {
-        dev.barrier()?;
         let head = self.head();
+        dev.barrier()?;
         self.advance_tail(dev, head)?;
         dev.barrier()
     }
