@@ -5,20 +5,28 @@ use std::sync::Wait;
 use std::test::Fail;
 use std::thread::Threads;
 use vx_base::{Bytes, MemSink, MemSource, NumList};
-use vx_dev::{BlockDev, Image, MemDisk, Operation};
+use vx_dev::{BlockDev, FuseDev, Image, MemDisk, Operation, pick_image};
 
 const SECTORS: u64 = 9_220;
 
-const ROOM: u64 = 200;
+const ROOM: u64 = 400;
+
+/// The operations of a format.
+const FORMAT: u64 = 70;
 
 const EXAMPLE: &[u8] = b"sessions 1\n0 create /a 644\n0 list /\n0 create /a 600\n";
 
+const ONE_CREATE: &[u8] = b"sessions 1\n0 create /a 644\n0 list /\n";
+
+const TEN_CREATES: &[u8] = b"sessions 1\n0 create /a 644\n0 create /b 644\n0 create /c 644\n0 create /d 644\n0 create /e 644\n0 create /f 644\n0 create /g 644\n0 create /h 644\n0 create /i 644\n0 create /j 644\n";
+
+const TEN_NAMES: &[u8] = b"abcdefghij";
+
 /// What a test looks at.
 #[derive(Drop)]
-struct Seen {
+struct Seen<D> {
     status: u8,
-    ops: u64,
-    dev: MemDisk,
+    dev: D,
     out: MemSink,
 }
 
@@ -30,37 +38,49 @@ fn words(alloc: Global) -> Result<Vec<String>, AllocError> {
     Ok(words)
 }
 
-/// A run over a device of zeros that fails these writes.
-fn run_script<R: Threads + Wait + Sync>(
-    rt: &R,
-    alloc: Global,
-    script: &[u8],
-    sectors: u64,
-    fail_writes: &[u64],
-) -> Result<Seen, Fail> {
+/// A disk of zeros that fails these calls of `write` and `barrier`.
+fn disk(alloc: Global, sectors: u64, fail_writes: &[u64]) -> Result<MemDisk, AllocError> {
     let fail_writes = NumList::from_slice(alloc, fail_writes)?;
-    let dev = MemDisk::new(
+    MemDisk::new(
         alloc,
         Image::zeroed(alloc, sectors)?,
         ROOM,
         fail_writes,
         NumList::new(alloc),
-    )?;
-    let mut source = MemSource::new(Bytes::from_slice(alloc, script)?, NumList::new(alloc));
-    let mut out = MemSink::new(alloc, 4096, NumList::new(alloc))?;
+    )
+}
+
+/// A run of a script that fails these reads, into a sink of this room.
+fn run_on<R: Threads + Wait + Sync, D: BlockDev + Send>(
+    rt: &R,
+    alloc: Global,
+    script: &[u8],
+    fail_reads: &[u64],
+    room: u32,
+    dev: D,
+) -> Result<Seen<D>, Fail> {
+    let fail_reads = NumList::from_slice(alloc, fail_reads)?;
+    let mut source = MemSource::new(Bytes::from_slice(alloc, script)?, fail_reads);
+    let mut out = MemSink::new(alloc, room, NumList::new(alloc))?;
     let words = words(alloc)?;
     let Ran {
         status,
         dev,
         history: _,
     } = run(rt, alloc, &words, dev, &mut source, &mut out, &OpenGate);
-    let ops = dev.ops();
-    Ok(Seen {
-        status,
-        ops,
-        dev,
-        out,
-    })
+    Ok(Seen { status, dev, out })
+}
+
+/// A run over a disk of zeros that fails these calls of `write` and `barrier`.
+fn run_script<R: Threads + Wait + Sync>(
+    rt: &R,
+    alloc: Global,
+    script: &[u8],
+    sectors: u64,
+    fail_writes: &[u64],
+) -> Result<Seen<MemDisk>, Fail> {
+    let dev = disk(alloc, sectors, fail_writes)?;
+    run_on(rt, alloc, script, &[], 4096, dev)
 }
 
 /// Whether this operation wrote bytes that begin so.
@@ -71,6 +91,63 @@ fn begins(dev: &MemDisk, at: usize, s: u64, front: &[u8]) -> bool {
     }
 }
 
+// ---- a plain reader of images
+
+/// The little-endian number at a place.
+fn number(bytes: &[u8], from: usize, len: usize) -> u64 {
+    let mut value = 0u64;
+    let mut scale = 1u64;
+    for byte in bytes.iter().skip(from).take(len) {
+        value = value.wrapping_add(u64::from(*byte).wrapping_mul(scale));
+        scale = scale.wrapping_mul(256);
+    }
+    value
+}
+
+fn sector(image: &Image, s: u64) -> [u8; 512] {
+    if s < image.len() {
+        *image.sector(s)
+    } else {
+        [0; 512]
+    }
+}
+
+/// What a sector holds once the log's records are laid over the image.
+fn replayed(image: &Image, s: u64) -> [u8; 512] {
+    let head = sector(image, 2);
+    let mut at = number(&head, 16, 8);
+    let end = number(&head, 24, 8);
+    let mut found = sector(image, s);
+    for _n in 0..1024 {
+        if at >= end {
+            break;
+        }
+        let descriptor = sector(image, 4 + at % 1024);
+        let count = number(&descriptor, 4, 4);
+        for i in 0..124u64 {
+            if i < count && number(&descriptor, 16 + 4 * i as usize, 4) == s {
+                found = sector(image, 4 + at.wrapping_add(1 + i) % 1024);
+            }
+        }
+        at = at.wrapping_add(count.wrapping_add(1));
+    }
+    found
+}
+
+/// Whether the root has a name of this one byte; all names of the test have one.
+fn has_name(image: &Image, name: u8) -> bool {
+    let block = replayed(image, 1094);
+    let count = number(&block, 0, 2) as usize;
+    block
+        .iter()
+        .skip(9)
+        .step_by(6)
+        .take(count)
+        .any(|byte| *byte == name)
+}
+
+// ---- the runs
+
 #[test]
 fn example(rt: HostRuntime) -> Result<(), Fail> {
     let seen = run_script(&rt, rt.alloc(), EXAMPLE, SECTORS, &[])?;
@@ -79,7 +156,7 @@ fn example(rt: HostRuntime) -> Result<(), Fail> {
         seen.out.as_slice(),
         b"0 1 ok 3\n0 2 ok 1 a\n0 3 no 2 Exist\ndone calls=3 moves=0 from=0 to=0\n".as_slice()
     );
-    assert_eq!(rt; seen.ops, 87);
+    assert_eq!(rt; seen.dev.ops(), 87);
     let descriptor = [
         0x56, 0x58, 0x52, 0x43, 4, 0, 0, 0, 0, 0, 0, 0, 0, 0, 0, 0, 4, 4, 0, 0, 7, 4, 0, 0, 0x46,
         4, 0, 0, 0x47, 4, 0, 0,
@@ -103,30 +180,171 @@ fn example(rt: HostRuntime) -> Result<(), Fail> {
 }
 
 #[test]
-fn a_failed_write_disables(rt: HostRuntime) -> Result<(), Fail> {
-    let seen = run_script(
-        &rt,
-        rt.alloc(),
-        b"sessions 1\n0 create /a 644\n0 list /\n",
-        SECTORS,
-        &[77],
-    )?;
-    assert_eq!(rt; seen.status, 4);
+fn no_lines(rt: HostRuntime) -> Result<(), Fail> {
+    let seen = run_script(&rt, rt.alloc(), b"sessions 1\n", SECTORS, &[])?;
+    assert_eq!(rt; (seen.status, seen.dev.ops()), (0, 72));
+    assert_eq!(rt; sector(seen.dev.image(), 0)[28], 1);
+    Ok(())
+}
+
+/// A create of a name of 255 times this letter.
+fn long_line(line: &mut Vec<u8>, letter: u8) -> Result<(), AllocError> {
+    line.extend_from_slice(b"0 create /")?;
+    for _n in 0..255 {
+        line.push(letter)?;
+    }
+    line.extend_from_slice(b" 644\n")
+}
+
+#[test]
+fn a_fourth_long_name_has_no_room(rt: HostRuntime) -> Result<(), Fail> {
+    let alloc = rt.alloc();
+    let mut script = Vec::new(alloc);
+    script.extend_from_slice(b"sessions 1\n")?;
+    for letter in *b"wxyz" {
+        long_line(&mut script, letter)?;
+    }
+    let seen = run_script(&rt, alloc, &script, SECTORS, &[])?;
+    assert_eq!(rt; seen.status, 0);
     assert_eq!(rt;
         seen.out.as_slice(),
-        b"0 1 no 20 WriteFault\n0 2 no 21 Disabled 1\ndisabled calls=2 moves=0 from=0 to=0\n".as_slice()
+        b"0 1 ok 3\n0 2 ok 4\n0 3 ok 5\n0 4 no 10 TooBig 2048\ndone calls=4 moves=0 from=0 to=0\n".as_slice()
     );
-    assert_eq!(rt; seen.ops, 77);
     Ok(())
 }
 
 #[test]
 fn a_device_one_sector_short(rt: HostRuntime) -> Result<(), Fail> {
     let seen = run_script(&rt, rt.alloc(), EXAMPLE, SECTORS - 1, &[])?;
-    assert_eq!(rt; (seen.status, seen.ops), (2, 0));
+    assert_eq!(rt; (seen.status, seen.dev.ops()), (2, 0));
     assert_eq!(rt;
         seen.out.as_slice(),
         b"refused 2 DeviceTooSmall 9219 9220\n".as_slice()
     );
+    Ok(())
+}
+
+// ---- faults
+
+const DISABLED: &[u8] =
+    b"0 1 no 20 WriteFault\n0 2 no 21 Disabled 1\ndisabled calls=2 moves=0 from=0 to=0\n";
+
+#[test]
+fn a_failed_write_disables(rt: HostRuntime) -> Result<(), Fail> {
+    let seen = run_script(&rt, rt.alloc(), ONE_CREATE, SECTORS, &[77])?;
+    assert_eq!(rt; (seen.status, seen.dev.ops()), (4, 77));
+    assert_eq!(rt; seen.out.as_slice(), DISABLED);
+    Ok(())
+}
+
+#[test]
+fn a_fuse_disables(rt: HostRuntime) -> Result<(), Fail> {
+    let alloc = rt.alloc();
+    let dev = FuseDev::new(disk(alloc, SECTORS, &[])?, 77);
+    let seen = run_on(&rt, alloc, ONE_CREATE, &[], 4096, dev)?;
+    assert_eq!(rt; (seen.status, seen.dev.ops()), (4, 77));
+    assert_eq!(rt; seen.out.as_slice(), DISABLED);
+    Ok(())
+}
+
+#[test]
+fn a_script_that_cannot_be_read(rt: HostRuntime) -> Result<(), Fail> {
+    let alloc = rt.alloc();
+    let dev = disk(alloc, SECTORS, &[])?;
+    let seen = run_on(&rt, alloc, EXAMPLE, &[2], 4096, dev)?;
+    assert_eq!(rt; (seen.status, seen.dev.ops()), (7, 0));
+    assert_eq!(rt; seen.out.as_slice(), b"refused 7 ScriptFault\n".as_slice());
+    Ok(())
+}
+
+#[test]
+fn a_sink_that_is_full(rt: HostRuntime) -> Result<(), Fail> {
+    let alloc = rt.alloc();
+    let dev = disk(alloc, SECTORS, &[])?;
+    let seen = run_on(&rt, alloc, EXAMPLE, &[], 4, dev)?;
+    assert_eq!(rt; seen.status, 5);
+    assert_eq!(rt; seen.out.as_slice(), b"0 1 ".as_slice());
+    Ok(())
+}
+
+// ---- crashes
+
+/// Whether each of the seeds 0 to 9 gives an image at this moment that has the name, or has it not.
+fn with_name(alloc: Global, dev: &MemDisk, moment: u64) -> Result<(bool, bool), Fail> {
+    let mut there = false;
+    let mut absent = false;
+    for seed in 0..10 {
+        if moment <= dev.ops() {
+            if has_name(&pick_image(alloc, dev, moment, seed)?, b'a') {
+                there = true;
+            } else {
+                absent = true;
+            }
+        }
+    }
+    Ok((there, absent))
+}
+
+#[test]
+fn a_create_is_there_from_its_return_on(rt: HostRuntime) -> Result<(), Fail> {
+    let alloc = rt.alloc();
+    let seen = run_script(&rt, alloc, ONE_CREATE, SECTORS, &[])?;
+    for moment in FORMAT..77 {
+        assert_eq!(rt; with_name(alloc, &seen.dev, moment)?, (false, true));
+    }
+    assert_eq!(rt; with_name(alloc, &seen.dev, 77)?, (true, true));
+    for moment in 78..88 {
+        assert_eq!(rt; with_name(alloc, &seen.dev, moment)?, (true, false));
+    }
+    Ok(())
+}
+
+/// How many of the ten names are there, where they are the first of them; else 11.
+fn names_there(image: &Image) -> u64 {
+    let mut count = 0;
+    let mut gap = false;
+    for name in TEN_NAMES {
+        if has_name(image, *name) {
+            if gap {
+                return 11;
+            }
+            count += 1;
+        } else {
+            gap = true;
+        }
+    }
+    count
+}
+
+/// How many creates of the ten had begun after so many operations, and how many had returned.
+fn begun_and_returned(moment: u64) -> (u64, u64) {
+    let begun = if moment < 78 { 1 } else { 2 + (moment - 78) / 7 };
+    (begun.min(10), (begun - 1).min(10))
+}
+
+/// Whether the images of the seeds 0 and 1 at this moment have as many names as they may.
+fn is_allowed(alloc: Global, dev: &MemDisk, moment: u64) -> Result<bool, Fail> {
+    let (begun, returned) = begun_and_returned(moment);
+    for seed in 0..2 {
+        if moment <= dev.ops() {
+            let there = names_there(&pick_image(alloc, dev, moment, seed)?);
+            if there < returned || there > begun {
+                return Ok(false);
+            }
+        }
+    }
+    Ok(true)
+}
+
+#[test]
+fn each_operation_may_fail(rt: HostRuntime) -> Result<(), Fail> {
+    let alloc = rt.alloc();
+    for failing in 71..158u64 {
+        let seen = run_script(&rt, alloc, TEN_CREATES, SECTORS, &[failing])?;
+        assert_eq!(rt; seen.status, 4);
+        for moment in failing.saturating_sub(4).max(FORMAT)..=seen.dev.ops() {
+            assert!(rt; is_allowed(alloc, &seen.dev, moment)?);
+        }
+    }
     Ok(())
 }
