@@ -8,3 +8,4 @@ pub mod Keeping
 pub mod Entries
 pub mod Batches
 pub mod Determined
+pub mod Allowing

@@ -16,3 +16,4 @@ pub mod LaidOut
 pub mod Shapes
 pub mod Replays
 pub mod Allowed
+pub mod AllowedLaws

@@ -1,6 +1,7 @@
 //! What a mount means: the tree, what a call does, which histories are legal, and what an image reads as.
 #![tactic(auto)]
 
+pub mod allowed;
 pub mod images;
 pub mod reads;
 pub mod states;

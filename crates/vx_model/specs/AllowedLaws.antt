@@ -1,0 +1,19 @@
+-- How what a crash may leave goes on as the history grows.
+use Rattle.std.specs.Prelude.{◌≡◌, ℕ, ◌+◌, ◌≤◌, List, ◌++◌, length, All}
+use Rattle.std.specs.List.{AllByRecursion}
+use Rattle.vx_base.specs.declared.event.Event.{Event}
+use Rattle.vx_model.specs.Legal.{World, at_of, after_all}
+use Rattle.vx_model.specs.Tree.{Tree}
+use Rattle.vx_model.specs.Replays.{ReplaysAs}
+use Rattle.vx_model.specs.Allowed.{come_by, IsPlaced, IsQuiet, IsAllowed}
+
+pub record AllowedLaws : Type 0 where
+  -- what is allowed stays so by events that are quiet then
+  pub later : (opening : World) (history events : List Event) (m : ℕ) (image : ℕ → List ℕ) → All (IsPlaced (length history)) history → AllByRecursion (IsQuiet m) events
+      → IsAllowed opening history m image → IsAllowed opening (history ++ events) m image
+  -- an image of the tree after a first part of the history is allowed, where all of that part has come and the rest is quiet
+  pub front : (opening : World) (history events : List Event) (m : ℕ) (image : ℕ → List ℕ) (tree : Tree) → All (IsPlaced (length history)) history → AllByRecursion (IsQuiet m) events
+      → length history ≤ come_by history m → tree ≡ (after_all opening history).state.tree → ReplaysAs image tree → IsAllowed opening (history ++ events) m image
+  pub come : (history events : List Event) (m : ℕ) → AllByRecursion (λ e. at_of e ≤ m) events → come_by (history ++ events) m ≡ come_by history m + length events
+  pub placed : (history events : List Event) → All (IsPlaced (length history)) history → AllByRecursion (IsPlaced (length (history ++ events))) events
+      → All (IsPlaced (length (history ++ events))) (history ++ events)
