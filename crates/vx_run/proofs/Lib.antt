@@ -18,3 +18,5 @@ pub mod StagedBatch
 pub mod Formatted
 pub mod HomeRuns
 pub mod KeptLaws
+pub mod Mounting
+pub mod Crashing

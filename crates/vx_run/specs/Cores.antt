@@ -12,14 +12,15 @@ use Rattle.vx_base.specs.declared.event.Event.TheVariants as event
 use Rattle.vx_base.specs.Faults.{Rose}
 use Rattle.vx_dev.specs.Tape as dev
 use Rattle.vx_log.specs.Logs.{LogView}
-use Rattle.vx_log.specs.Moments.{Told, Past}
-use Rattle.vx_model.specs.Allowed.{come_by, IsAllowed}
+use Rattle.vx_log.specs.Moments.{Told, Past, Passed}
+use Rattle.vx_model.specs.Allowed.{come_by, is_refusal, IsPlaced, IsAllowed}
+use Rattle.vx_model.specs.Replays.{ReplaysAs}
 use Rattle.vx_model.specs.State.{State, fresh}
 use Rattle.vx_model.specs.Step.{step}
 use Rattle.vx_model.specs.Legal.{World, opening, after_all, Legal, IfThere, is_fault, state_after}
 use Rattle.vx_run.specs.States.{new_log_blocks}
 use Rattle.vx_run.specs.Metadata.{state_of}
-use Rattle.vx_run.specs.Journals.{IsAtRest, IsMounted, IsKept}
+use Rattle.vx_run.specs.Journals.{IsAtRest, IsMounted, IsMade, IsKept}
 use Rattle.vx_run.specs.declared.engine.Core.{Core}
 
 -- where every mount begins: a new file system whose directories have one block at most
@@ -34,11 +35,6 @@ pub record IsRun (opened : ℕ) (history : List Event) (state : State) (count : 
   pub next : (after_all (beginning opened) history).next ≡ length history
   pub at : (after_all (beginning opened) history).at ≤ count
   pub mounted : (after_all (beginning opened) history).unmounted ≡ false
-
--- each Ret answers a Do that came before it
-abbrev pub IsPlaced : ℕ → Event → Type 0
-IsPlaced length (event.Ret at place answer) = place < length
-IsPlaced length _ = Unit {0}
 
 -- a crash at any earlier moment from the end of the format on leaves what the history allows, and so does one now
 pub record IsLive (opened : ℕ) (history : List Event) (disabled : Option ℕ) (log : LogView) (homes : List (Option (List ℕ))) (s : State) (t : dev.Tape) : Type 0 where
@@ -74,6 +70,30 @@ pub record IsAnswered (line : ℕ) (call : Call) (old new : List Event) : Type 0
 pub record IsReply (s : State) (call : Call) (reply : Reply) (new : State) : Type 0 where
   pub reply_is : IfThere (step s 0 call) (λ done. (reply ≡ done.reply) ⊎ (is_fault reply ≡ true))
   pub state_is : new ≡ state_after s 0 call reply
+
+-- the inode that a reply says was made
+abbrev pub made_in : Reply → Option ℕ
+made_in (say.Made ino) = Some ino
+made_in _ = None
+
+-- a call has led from the one state to the other: a create that made an inode, or a call that changed nothing
+abbrev pub IsMaking : State → State → Option ℕ → Type 0
+IsMaking s new None = new ≡ s
+IsMaking s new (Some ino) = IsMade s new ino
+
+-- nothing was to be made durable: the device and the journal are as they were, and the reply is the answer
+pub record IsUntouched (before after : dev.State) (old new : Core) (reply answer : Reply) : Type 0 where
+  pub device : after ≡ before
+  pub journal : new.journal ≡ old.journal
+  pub disabled : new.disabled ≡ old.disabled
+  pub answer_is : answer ≡ reply
+
+-- The change was carried to the device: each image on the way replays as the tree before it or after it. Now the log and the
+-- homes stand for the state after it, or a write has failed, and the answer is a refusal.
+pub record IsCarried (s made : State) (before after : dev.State) (new : Core) (answer : Reply) : Type 0 where
+  pub passed : Passed (λ image. ReplaysAs image s.tree ⊎ ReplaysAs image made.tree) before after
+  pub kept : new.disabled ≡ None → Told after (IsKept new.journal.log new.journal.homes made)
+  pub refused : IsSome new.disabled → is_refusal answer ≡ true
 
 -- the mount is disabled exactly where a write or barrier failed
 pub record TellsFaults (before now : ℕ) (disabled : Option ℕ) : Type 0 where

@@ -1,13 +1,16 @@
 //! A mount: it answers one call after another, and keeps the history.
-ghost use Rattle.std.specs.Prelude.{◌≡◌, ◌⊎◌, ◌<◌, ◌≤◌, ◌+◌, ◌*◌, ◌^◌, ◌++◌, ◌∷◌, [], ℕ, true, None, Some, OnOk, OnErr, IfOk, IfSome, length, vec_len, vec_capacity, is_none, replicate, List, All};
+ghost use Rattle.std.specs.Prelude.{◌≡◌, ◌⊎◌, ◌<◌, ◌≤◌, ◌+◌, ◌*◌, ◌^◌, ◌++◌, ◌∷◌, [], ℕ, true, None, Some, OnOk, OnErr, IfOk, IfSome, IsSome, length, vec_len, vec_capacity, is_none, replicate, List, All};
 ghost use Rattle.vx_base.specs.Faults.{HasCause};
 ghost use Rattle.vx_base.specs.declared.event.Event.TheVariants as event;
 ghost use Rattle.vx_base.specs.declared.call.Call.{Call};
 ghost use Rattle.vx_model.specs.Step.{has_step};
 ghost use Rattle.vx_model.specs.Legal.{is_fault};
-ghost use Rattle.vx_run.specs.Cores.{IsReply, IsReasoned};
+ghost use Rattle.vx_model.specs.Allowed.{is_refusal};
+ghost use Rattle.vx_model.specs.State.{State};
+ghost use Rattle.vx_run.specs.Cores.{HasMode, IsReply, IsReasoned, IsMaking, made_in};
 ghost use Rattle.vx_run.specs.Metadata.{state_of};
 ghost use Rattle.vx_run.specs.Devices.{Onward};
+ghost use Rattle.vx_run.specs.Journals.{IsMounted};
 ghost use Rattle.vx_run.specs.Replies.{IsSound, IsSoundOrFault};
 ghost use Rattle.vx_base.specs.declared.reply.Reply.TheVariants.{Refused};
 
@@ -16,6 +19,8 @@ use crate::metadata::Metadata;
 use std::alloc::{AllocError, Global};
 use vx_base::{Call, Event, Refusal, Reply};
 use vx_dev::BlockDev;
+use vx_model::allowed::allowed_laws;
+use vx_model::states::{create_keeps, create_makes};
 
 /// What a mount keeps beside its device.
 #[derive(Drop)]
@@ -36,8 +41,8 @@ impl Core {
     ghost use Rattle.vx_model.specs.Legal.{after_all};
     ghost use Rattle.vx_model.specs.State.{fresh};
     ghost use Rattle.vx_run.specs.States.{new_log_blocks};
-    ghost use Rattle.vx_run.specs.Journals.{IsLeft};
-    ghost use Rattle.vx_run.specs.Cores.{beginning, HasMode, IsCore, IsAnswered, IsRun, IsEnded, is_unmounted, IsOfLines, TellsFaults, AnswersWithReason, StaysDisabled};
+    ghost use Rattle.vx_run.specs.Journals.{IsMade, IsKept, IsLeft};
+    ghost use Rattle.vx_run.specs.Cores.{beginning, IsUntouched, IsCarried, IsCore, IsAnswered, IsRun, IsEnded, is_unmounted, IsOfLines, TellsFaults, AnswersWithReason, StaysDisabled};
     ghost use Rattle.vx_run.specs.Journals.{IsAtRest};
 
     /// A mount of a new file system. It takes all memory for the history of so many lines.
@@ -82,6 +87,7 @@ impl Core {
         ensures faults { (before : ℕ) → TellsFaults before (D.state dev.old).write_faults self.old.disabled → TellsFaults before (D.state dev.new).write_faults self.new.disabled }
         ensures onward { Onward (D.state dev.old) (D.state dev.new) }
     {
+        allowed_laws();
         let at = dev.ops();
         let place = self.history.len() as u64;
         let (reply, answer) = replies(&mut self.metadata, self.disabled, alloc, &call);
@@ -137,6 +143,7 @@ impl Core {
         ensures faults { (before : ℕ) → TellsFaults before (D.state dev.old).write_faults self.old.disabled → TellsFaults before (D.state dev.new).write_faults self.new.disabled }
         ensures onward { Onward (D.state dev.old) (D.state dev.new) }
     {
+        allowed_laws();
         if self.disabled.is_some() {
             return;
         }
@@ -160,6 +167,10 @@ impl Core {
         ensures answer { (result ≡ answer) ⊎ (is_fault result ≡ true) }
         ensures stays { StaysDisabled self.old.disabled self.new.disabled }
         ensures reason { IsReasoned self.old.disabled answer → IsReasoned self.new.disabled result }
+        ensures untouched { (made ≡ None) ⊎ IsSome self.old.disabled → IsUntouched (D.state dev.old) (D.state dev.new) self.old self.new answer result }
+        ensures carried { (s : State) (ino : ℕ) → made ≡ Some ino → self.old.disabled ≡ None → IsMade s (state_of self.old.metadata) ino
+            → Told (D.state dev.old) (IsKept self.old.journal.log self.old.journal.homes s)
+            → IsCarried s (state_of self.old.metadata) (D.state dev.old) (D.state dev.new) self.new result }
         ensures history { self.new.history ≡ self.old.history }
         ensures metadata { self.new.metadata ≡ self.old.metadata }
         ensures opened { self.new.opened ≡ self.old.opened }
@@ -182,7 +193,8 @@ impl Core {
 /// The inode that a reply says was made.
 fn made_by(reply: &Reply) -> Option<u32>
     requires { IsSoundOrFault reply.now }
-    ensures { IfSome result (λ ino. ino < 128) }
+    ensures inode { IfSome result (λ ino. ino < 128) }
+    ensures made { result ≡ made_in reply.now }
 {
     match reply {
         Reply::Made { ino } => Some(ino.get()),
@@ -202,7 +214,12 @@ fn replies(
     ensures reply { IsReply (state_of metadata.old) call.now result.0 (state_of metadata.new) }
     ensures sound { IsSoundOrFault result.0 }
     ensures reason { IsReasoned disabled result.0 }
+    ensures refused { IsSome disabled → is_refusal result.0 ≡ true }
+    ensures making { IsMounted (state_of metadata.old) → HasMode call.now → IsMaking (state_of metadata.old) (state_of metadata.new) (made_in result.0) }
+    ensures mounted { IsMounted (state_of metadata.old) → HasMode call.now → IsMounted (state_of metadata.new) }
 {
+    create_keeps();
+    create_makes();
     if let Some(write_faults) = disabled {
         return twice(&Refusal::Disabled { write_faults });
     }

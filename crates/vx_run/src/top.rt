@@ -16,6 +16,7 @@ use std::sync::Wait;
 use std::thread::Threads;
 use vx_base::{Call, Event, History, Sink, Source};
 use vx_dev::BlockDev;
+use vx_model::states::fresh_reads;
 use vx_script::{StartRefusal, parse, render, render_refusal, script_law};
 
 /// The sectors that a file system of one unit and a log of 512 blocks needs.
@@ -135,6 +136,7 @@ fn worked<D: BlockDev, S: Source>(
         Ok(()) => {}
         Err(_) => return Outcome::Refused(StartRefusal::WriteFault),
     }
+    fresh_reads();
     core.answer_all(alloc, dev, calls);
     core.unmount(dev);
     Outcome::Finished {

@@ -1,0 +1,1 @@
+-- What a crash may leave, from one call to the next.
