@@ -47,6 +47,12 @@ always_now first P t past present m from le image is = elim (cases_lt m (length 
       subst (λ (k : ℕ). P k image) same (present image here)
 ]
 
+-- the log and the homes stand for the state, where no write has failed
+pub kept_live : (opened : ℕ) (h : List Event) (s : State) (o : Option Tape) (disabled : Option ℕ) (log : LogView) (homes : List (Option (List ℕ))) → disabled ≡ None → IfSome o (IsLive opened h disabled log homes s)
+    → IfSome o (IsKept log homes s)
+kept_live opened h s None disabled log homes none live = tt
+kept_live opened h s (Some t) disabled log homes none live = live.kept none
+
 -- ---- a call and its answer
 
 module _ (laws : AllowedLaws) (opened : ℕ) (h : List Event) (at later place line : ℕ) (call : Call) (reply answer : Reply)
@@ -140,10 +146,6 @@ module _ (laws : AllowedLaws) (opened : ℕ) (h : List Event) (at later place li
       let b = subst (λ (x : Journal). Told d2 (IsLive opened longer old.disabled x.log x.homes s2)) (sym un.journal) a in
       subst (λ (x : Option ℕ). Told d2 (IsLive opened longer x new.journal.log new.journal.homes s2)) (sym un.disabled) b
 
-  kept_now : (s : State) (o : Option Tape) (disabled : Option ℕ) (log : LogView) (homes : List (Option (List ℕ))) → disabled ≡ None → IfSome o (IsLive opened h disabled log homes s) → IfSome o (IsKept log homes s)
-  kept_now s None disabled log homes none live = tt
-  kept_now s (Some t) disabled log homes none live = live.kept none
-
   past_now : (s : State) (o : Option Tape) (disabled : Option ℕ) (log : LogView) (homes : List (Option (List ℕ))) → IfSome o (IsLive opened h disabled log homes s)
       → IfSome o (Past (opened + 70) (IsAllowed (beginning opened) h))
   past_now s None disabled log homes live = tt
@@ -168,7 +170,7 @@ module _ (laws : AllowedLaws) (opened : ℕ) (h : List Event) (at later place li
       told_untouched s s2 d d2 old new copy start (λ none. absurd (none_is_not old.disabled none some)) refused live (untouched (inr some))
   by_cases s s2 first last d d2 old new copy (Some ino) None is start end making live refused untouched carried =
       told_carried s s2 first last d d2 old new start end live
-      (carried s ino refl is making (kept_now s d.told old.disabled old.journal.log old.journal.homes is live))
+      (carried s ino refl is making (kept_live opened h s d.told old.disabled old.journal.log old.journal.homes is live))
 
   -- what lives on through a call
   pub live_answered : (s s2 : State) → (after_all (beginning opened) h).state ≡ s → IsReply s call reply s2
@@ -181,3 +183,65 @@ module _ (laws : AllowedLaws) (opened : ℕ) (h : List Event) (at later place li
       let last = ap (λ (w : World). w.state) (after_all-append (beginning opened) h (event.Do at 0 line call reply ∷ []))
       ∙ ap (λ (x : State). state_after x 0 call reply) first ∙ sym is.state_is in
       by_cases s s2 first last d d2 old new copy made old.disabled refl start end making live refused untouched carried
+
+-- ---- the end of the history
+
+module _ (laws : AllowedLaws) (opened : ℕ) (h : List Event) (s : State) (start : ℕ) (state_is : (after_all (beginning opened) h).state ≡ s)
+    (placed : All (IsPlaced (length h)) h) (came : (m : ℕ) → start ≤ m → come_by h m ≡ length h) where
+  -- an image that replays as the last tree
+  at_end : (m : ℕ) (image : ℕ → List ℕ) → start ≤ m → ReplaysAs image s.tree → IsAllowed (beginning opened) h m image
+  at_end m image from replays = subst (λ (es : List Event). IsAllowed (beginning opened) es m image) (append-nil h)
+      (laws.front (beginning opened) h [] m image s.tree placed tt (omega (arith, came m from)) (ap (λ (x : State). x.tree) (sym state_is)) replays)
+
+  always_failed : (t : Tape) (ops : List Operation) → length t.ops ≡ start → Past (opened + 70) (IsAllowed (beginning opened) h) t
+      → Always (length t.ops) (λ _ image. ReplaysAs image s.tree) (did_all ops t) → Always (opened + 70) (IsAllowed (beginning opened) h) (did_all ops t)
+  always_failed t ops begins past always m from le image is = elim (cases_lt m (length t.ops)) [
+    | inl early ↦ past m from early image (subst (λ (u : Tape). IsImage u image) (upto-front m ops t (omega (arith, early))) is)
+    | inr on ↦ at_end m image (omega (arith, begins, on)) (always m on le image is)
+  ]
+
+  pub told_failed : (o o2 : Option Tape) (ops : List Operation) (disabled : Option ℕ) (log : LogView) (homes : List (Option (List ℕ))) → IfSome o (λ t. length t.ops ≡ start)
+      → IfSome o (IsLive opened h disabled log homes s) → o2 ≡ option_map (did_all ops) o → IfSome o (λ t. Always (length t.ops) (λ _ image. ReplaysAs image s.tree) (did_all ops t))
+      → IfSome o2 (Always (opened + 70) (IsAllowed (beginning opened) h))
+  told_failed None o2 ops disabled log homes begins live told always = subst (λ (x : Option Tape). IfSome x (Always (opened + 70) (IsAllowed (beginning opened) h))) (sym told) tt
+  told_failed (Some t) o2 ops disabled log homes begins live told always = subst (λ (x : Option Tape). IfSome x (Always (opened + 70) (IsAllowed (beginning opened) h))) (sym told)
+      (always_failed t ops begins live.past always)
+
+  -- nothing is done where a write has failed before
+  pub told_stopped : (o : Option Tape) (disabled : Option ℕ) (log : LogView) (homes : List (Option (List ℕ))) → IsSome disabled → IfSome o (IsLive opened h disabled log homes s)
+      → IfSome o (Always (opened + 70) (IsAllowed (beginning opened) h))
+  told_stopped None disabled log homes some live = tt
+  told_stopped (Some t) disabled log homes some live = always_now (opened + 70) (IsAllowed (beginning opened) h) t live.past (live.stopped some)
+
+  pub state_unmounted : (at : ℕ) → (after_all (beginning opened) (h ++ event.Unmounted at ∷ [])).state ≡ s
+  state_unmounted at = ap (λ (w : World). w.state) (after_all-append (beginning opened) h (event.Unmounted at ∷ [])) ∙ state_is
+
+  -- the unmounting is durable
+  at_unmounted : (at m : ℕ) (image : ℕ → List ℕ) → start ≤ at → at ≤ m → ReplaysAs image s.tree → IsAllowed (beginning opened) (h ++ event.Unmounted at ∷ []) m image
+  at_unmounted at m image order from replays =
+      let longer = h ++ event.Unmounted at ∷ [] in
+      let come : come_by longer m ≡ length longer = laws.come h (event.Unmounted at ∷ []) m (from, tt) ∙ omega (arith, came m (omega (arith, order, from)), length-append h (event.Unmounted at ∷ [])) in
+      subst (λ (es : List Event). IsAllowed (beginning opened) es m image) (append-nil longer)
+      (laws.front (beginning opened) longer [] m image s.tree (laws.placed h (event.Unmounted at ∷ []) placed (tt, tt)) tt (omega (arith, come)) (ap (λ (x : State). x.tree) (sym (state_unmounted at))) replays)
+
+  always_unmounted : (at : ℕ) (t : Tape) (ops : List Operation) → length t.ops ≡ start → length (did_all ops t).ops ≡ at → Past (opened + 70) (IsAllowed (beginning opened) h) t
+      → Always (length t.ops) (λ _ image. ReplaysAs image s.tree) (did_all ops t) → Always (opened + 70) (IsAllowed (beginning opened) (h ++ event.Unmounted at ∷ [])) (did_all ops t)
+  always_unmounted at t ops begins ends past always m from le image is = elim (cases_lt m (length t.ops)) [
+    | inl early ↦ laws.later (beginning opened) h (event.Unmounted at ∷ []) m image placed (omega (arith, early, ends, length-append t.ops ops), tt)
+        (past m from early image (subst (λ (u : Tape). IsImage u image) (upto-front m ops t (omega (arith, early))) is))
+    | inr on ↦ elim (cases_lt m at) [
+      | inl soon ↦ laws.front (beginning opened) h (event.Unmounted at ∷ []) m image s.tree placed (soon, tt) (omega (arith, came m (omega (arith, begins, on)))) (ap (λ (x : State). x.tree) (sym state_is))
+          (always m on le image is)
+      | inr last ↦ at_unmounted at m image (omega (arith, begins, ends, length-append t.ops ops)) last (always m on le image is)
+    ]
+  ]
+
+  pub told_unmounted : (at : ℕ) (o o2 : Option Tape) (ops : List Operation) (disabled : Option ℕ) (log : LogView) (homes : List (Option (List ℕ))) → IfSome o (λ t. length t.ops ≡ start)
+      → IfSome o2 (λ t. length t.ops ≡ at) → IfSome o (IsLive opened h disabled log homes s) → o2 ≡ option_map (did_all ops) o
+      → IfSome o (λ t. Always (length t.ops) (λ _ image. ReplaysAs image s.tree) (did_all ops t))
+      → IfSome o2 (Always (opened + 70) (IsAllowed (beginning opened) (h ++ event.Unmounted at ∷ [])))
+  told_unmounted at None o2 ops disabled log homes begins ends live told always =
+      subst (λ (x : Option Tape). IfSome x (Always (opened + 70) (IsAllowed (beginning opened) (h ++ event.Unmounted at ∷ [])))) (sym told) tt
+  told_unmounted at (Some t) o2 ops disabled log homes begins ends live told always =
+      let stop : length (did_all ops t).ops ≡ at = subst (λ (x : Option Tape). IfSome x (λ u. length u.ops ≡ at)) told ends in
+      subst (λ (x : Option Tape). IfSome x (Always (opened + 70) (IsAllowed (beginning opened) (h ++ event.Unmounted at ∷ [])))) (sym told) (always_unmounted at t ops begins stop live.past always)
