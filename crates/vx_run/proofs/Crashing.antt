@@ -245,3 +245,15 @@ module _ (laws : AllowedLaws) (opened : ℕ) (h : List Event) (s : State) (start
   told_unmounted at (Some t) o2 ops disabled log homes begins ends live told always =
       let stop : length (did_all ops t).ops ≡ at = subst (λ (x : Option Tape). IfSome x (λ u. length u.ops ≡ at)) told ends in
       subst (λ (x : Option Tape). IfSome x (Always (opened + 70) (IsAllowed (beginning opened) (h ++ event.Unmounted at ∷ [])))) (sym told) (always_unmounted at t ops begins stop live.past always)
+
+-- ---- the start of the history
+
+-- nothing is claimed before the end of the format
+pub live_formatted : (opened : ℕ) (h : List Event) (s : State) (o : Option Tape) (disabled : Option ℕ) (log : LogView) (homes : List (Option (List ℕ))) → disabled ≡ None
+    → IfSome o (λ t. length t.ops ≡ opened + 70) → IfSome o (IsKept log homes s) → IfSome o (IsLive opened h disabled log homes s)
+live_formatted opened h s None disabled log homes none formatted kept = tt
+live_formatted opened h s (Some t) disabled log homes none formatted kept = record {
+  past = λ m from lt image is. absurd (omega (arith, from, lt, formatted));
+  kept = λ _. kept;
+  stopped = λ some. absurd (none_is_not disabled none some);
+}

@@ -15,6 +15,7 @@ use Rattle.vx_script.specs.declared.script.ScriptRefusal.{ScriptRefusal}
 use Rattle.vx_script.specs.declared.script.ScriptRefusal.TheVariants as script
 use Rattle.vx_script.specs.declared.start.StartRefusal.{StartRefusal}
 use Rattle.vx_script.specs.declared.start.StartRefusal.TheVariants as start
+use Rattle.vx_run.specs.Cores.{HasMode}
 use Rattle.vx_run.specs.Words.{are_words}
 use Rattle.vx_run.specs.Reads.{HasRead}
 use Rattle.vx_run.specs.Ends.{Setting, Asks, IsRead, IsUnasked, HasEnded, refused}
@@ -53,6 +54,14 @@ built _ h = absurd h
 -- each call of a script is built
 pub all_built : (calls : List Call) → IsScript calls → All (λ c. has_step c ≡ true) calls
 all_built calls is = λ k d lt. built _ (is.each k d lt)
+
+has_mode : (c : Call) → IsScriptCall c → HasMode c
+has_mode (call.Create path mode) h = h.1
+has_mode _ h = tt
+
+-- each create of a script has a mode that an inode can have
+pub all_modes : (calls : List Call) → IsScript calls → All HasMode calls
+all_modes calls is = λ k d lt. has_mode _ (is.each k d lt)
 
 pub ended_unasked : (s : Setting) (d : dev.State) (faults : ℕ) (why : StartRefusal) → IsUnasked s faults why → d ≡ s.device → HasEnded s d faults (refused why)
 ended_unasked s d faults start.BadWords h same = (h, same)

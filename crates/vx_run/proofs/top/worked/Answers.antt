@@ -1,10 +1,23 @@
-use Rattle.std.proofs.Common.{◌≡◌, ℕ, List, map, sym, ◌∙◌, subst, ap, not, refl, arith}
+use Rattle.std.proofs.Common.{◌≡◌, ℕ, ◌+◌, List, length, replicate, Option, None, map, sym, ◌∙◌, subst, ap, not, refl, arith}
+use Rattle.std.specs.Prelude.{All, IfSome}
 use Rattle.std.specs.String.{string_bytes}
+use Rattle.std.proofs.lemmas.List.Elements.{All-nil}
 use Rattle.vx_base.specs.declared.call.Call.{Call}
-use Rattle.vx_run.specs.Cores.{IsEnded, is_unmounted, TellsFaults}
+use Rattle.vx_base.specs.declared.event.Event.{Event}
+use Rattle.vx_log.specs.Logs.{LogView, fresh_log}
+use Rattle.vx_log.specs.Moments.{Told, Always}
+use Rattle.vx_model.specs.Allowed.{come_by, IsPlaced, IsAllowed}
+use Rattle.vx_model.specs.LaidOut.{IsLaidOut}
+use Rattle.vx_model.specs.Legal.{after_all}
+use Rattle.vx_model.specs.State.{State, fresh}
+use Rattle.vx_run.specs.Cores.{beginning, IsEnded, is_unmounted, TellsFaults}
 use Rattle.vx_run.specs.Ends.{Setting, Asks}
+use Rattle.vx_run.specs.Journals.{IsKept, IsLeft}
+use Rattle.vx_run.specs.Metadata.{state_of}
+use Rattle.vx_run.specs.States.{new_log_blocks}
 use Rattle.vx_run.proofs.Ending.{none_of, some_of, none_or_some, enabled_tells}
-use Rattle.vx_run.proofs.Scripts.{ended_unasked, all_built}
+use Rattle.vx_run.proofs.Scripts.{ended_unasked, all_built, all_modes}
+use Rattle.vx_run.proofs.Crashing.{live_formatted}
 use Rattle.vx_run.proofs.top.worked.Goals as goal
 
 pub returns-in-Err-clause-ended : goal.returns-in-Err-clause-ended
@@ -39,6 +52,36 @@ returns-in-Err-format-clause-ended g c = record {
   fewer = c.in-Err-format.ensures.fewer;
 }
 
+pub answer_all-requires-clause-core : goal.answer_all-requires-clause-core
+answer_all-requires-clause-core g c =
+    let new = c.in-Ok-fresh.ensures in
+    let core = c.in-Ok-fresh.core in
+    let h = core.history.items in
+    let s = state_of core.metadata in
+    let d = g.D.BlockDev.state c.format.new.dev in
+    let with_log = subst (λ (log : LogView). Told d (IsKept log (replicate 68 None) (fresh new_log_blocks 1))) (sym new.log) c.in-Ok-format.ensures.kept in
+    let with_homes = subst (λ (homes : List (Option (List ℕ))). Told d (IsKept core.journal.log homes (fresh new_log_blocks 1))) (sym new.homes) with_log in
+    let kept = subst (λ (x : State). Told d (IsKept core.journal.log core.journal.homes x)) (sym new.state) with_homes in
+    record {
+      run = new.run d.count (omega (arith, c.ops.ensures.number, c.in-Ok-format.ensures.count));
+      size = omega (arith, c.sectors-have.ensures, c.if-have-lt-SECTORS.false, c.in-Ok-format.ensures.onward.size);
+      rest = λ _. new.rest;
+      head = omega (arith, new.head);
+      mounted = record {
+        laid_out = subst IsLaidOut (sym new.state) (c.fresh_reads.ensures.laid_out new_log_blocks 1 (omega arith) (omega arith));
+        log_blocks = refl;
+        units = refl;
+      };
+      come = λ m from. subst (λ (es : List Event). come_by es m ≡ length es) (sym new.history) refl;
+      placed = subst (λ (es : List Event). All (IsPlaced (length es)) es) (sym new.history) (All-nil (IsPlaced 0));
+      live = live_formatted core.opened h s d.told core.disabled core.journal.log core.journal.homes new.enabled
+          (subst (λ (n : ℕ). IfSome d.told (λ t. length t.ops ≡ n)) (omega (arith, c.in-Ok-format.ensures.count, c.ops.ensures.number, new.opened)) (g.met.D.BlockDev.in_step c.format.new.dev))
+          kept;
+    }
+
+pub answer_all-requires-clause-modes : goal.answer_all-requires-clause-modes
+answer_all-requires-clause-modes g c = let a = c.in-Ok.ensures.asks (g.D.BlockDev.state c.args.dev.now) in all_modes c.in-Ok.calls.items a.form
+
 pub answer_all-requires-clause-built : goal.answer_all-requires-clause-built
 answer_all-requires-clause-built g c = let a = c.in-Ok.ensures.asks (g.D.BlockDev.state c.args.dev.now) in all_built c.in-Ok.calls.items a.form
 
@@ -66,4 +109,7 @@ returns-clause-ended g c =
       fine = λ off. tells.none (none_of c.unmount.new.self.disabled c.is_some.result c.is_some.ensures off);
       rose = λ on. tells.some (some_of c.unmount.new.self.disabled c.is_some.result c.is_some.ensures on);
       formatted = omega (arith, c.in-Ok-format.ensures.count, c.answer_all.ensures.onward.later, c.unmount.ensures.onward.later);
+      crash = subst (λ (o : ℕ). Told (g.D.BlockDev.state c.unmount.new.dev) (Always (o + 70) (IsAllowed (beginning o) history))) opened c.unmount.ensures.allowed;
+      clean = λ off. subst (λ (o : ℕ). Told (g.D.BlockDev.state c.unmount.new.dev) (IsLeft (after_all (beginning o) history).state.tree)) opened
+          (c.unmount.ensures.clean (none_of c.unmount.new.self.disabled c.is_some.result c.is_some.ensures off));
     }
