@@ -1,15 +1,13 @@
 -- What a crash may leave, as the history grows.
-use Rattle.std.proofs.Common.{◌≡◌, ◌⊎◌, ℕ, zero, suc, ◌+◌, ◌<◌, ◌≤◌, Bool, true, false, nat_le, List, [], ◌∷◌, ◌++◌, length, take, Option, Some, None, refl, sym, ◌∙◌, ap, subst, inl, inr, arith, length-append}
+use Rattle.std.proofs.Common.{◌≡◌, ℕ, zero, suc, ◌+◌, ◌<◌, ◌≤◌, Bool, true, false, nat_le, List, [], ◌∷◌, ◌++◌, length, Option, Some, None, refl, sym, ◌∙◌, ap, subst, inl, inr, arith, length-append}
 use Rattle.std.specs.Prelude.{filter, slice_get, Contains, IfSome, All}
 use Rattle.std.specs.List.{AllByRecursion}
 use Rattle.std.specs.Option.{option_and_then}
-use Rattle.std.proofs.lemmas.Bool.{cases_lt}
 use Rattle.std.proofs.lemmas.Bool.Decides.{nat_tests}
 use Rattle.std.proofs.lemmas.List.{take-append-le}
 use Rattle.std.proofs.Math.Seq.{take-append_seam}
 use Rattle.std.proofs.lemmas.List.Elements.{All-append, All-from_recursion, All-contains, All-weaker, Contains-append_cases, filter-append}
 use Rattle.std.proofs.lemmas.List.Sums.{length-filter, count_by-le-length}
-use Rattle.vx_base.specs.declared.call.Call.{Call}
 use Rattle.vx_base.specs.declared.event.Event.{Event}
 use Rattle.vx_base.specs.declared.event.Event.TheVariants as event
 use Rattle.vx_base.specs.declared.reply.Reply.{Reply}
@@ -17,7 +15,8 @@ use Rattle.vx_model.specs.Legal.{World, at_of, after_all}
 use Rattle.vx_model.specs.Tree.{Tree}
 use Rattle.vx_model.specs.Shapes.{shape}
 use Rattle.vx_model.specs.Replays.{ReplaysAs}
-use Rattle.vx_model.specs.Allowed.{come_by, call_of, call_at, is_durable, is_refusal, HoldsDurable, IsPlaced, IsQuiet, IsAllowed}
+use Rattle.vx_model.specs.Allowed.{come_by, call_of, call_at, is_durable, is_refusal, HoldsDurable, IsAllowed}
+use Rattle.vx_model.specs.AllowedLaws.{IsPlaced, IsQuiet}
 
 slice_get-front : {A : Type 0} (xs ys : List A) (i : ℕ) → i < length xs → slice_get (xs ++ ys) i ≡ slice_get xs i
 slice_get-front [] ys i lt = absurd (omega (arith, lt))

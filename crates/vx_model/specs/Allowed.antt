@@ -1,5 +1,5 @@
 -- What a crash may leave, by the history.
-use Rattle.std.specs.Prelude.{◌≡◌, ◌⊎◌, ℕ, ◌<◌, ◌≤◌, Bool, true, false, nat_le, List, length, take, filter, slice_get, Contains, Option, Some, None, IfSome}
+use Rattle.std.specs.Prelude.{◌≡◌, ℕ, ◌<◌, ◌≤◌, Bool, true, false, nat_le, List, length, take, filter, slice_get, Contains, Option, Some, None, IfSome}
 use Rattle.std.specs.Option.{option_and_then}
 use Rattle.vx_base.specs.declared.call.Call.{Call}
 use Rattle.vx_base.specs.declared.call.Call.TheVariants as call
@@ -38,17 +38,6 @@ pub record HoldsDurable (history : List Event) (m k : ℕ) : Type 0 where
   pub returned : (at place : ℕ) (answer : Reply) → Contains history (event.Ret at place answer) → at ≤ m → is_refusal answer ≡ false
       → IfSome (call_at history place) (λ c. is_durable c ≡ true → place < k)
   pub unmounted : (at place : ℕ) → slice_get history place ≡ Some (event.Unmounted at) → at ≤ m → place < k
-
--- each Ret answers a Do that came before it
-abbrev pub IsPlaced : ℕ → Event → Type 0
-IsPlaced length (event.Ret at place answer) = place < length
-IsPlaced length _ = Unit {0}
-
--- when the device had done m operations, the event had neither answered a call but by a refusal nor unmounted
-abbrev pub IsQuiet : ℕ → Event → Type 0
-IsQuiet m (event.Ret at place answer) = (m < at) ⊎ (is_refusal answer ≡ true)
-IsQuiet m (event.Unmounted at) = m < at
-IsQuiet m _ = Unit {0}
 
 -- What a crash may leave when the device has done m operations: an image that replays as a tree whose names and attributes
 -- are those after the first events of the history, as many as are durable or more, and no more than had come.

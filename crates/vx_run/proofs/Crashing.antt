@@ -13,8 +13,8 @@ use Rattle.vx_dev.specs.Tape.{Tape, upto, IsImage, IsInStep}
 use Rattle.vx_log.specs.Logs.{LogView}
 use Rattle.vx_log.specs.Moments.{Told, Past, Always, Passed}
 use Rattle.vx_log.specs.Runs.{did_all}
-use Rattle.vx_model.specs.Allowed.{come_by, is_refusal, IsPlaced, IsAllowed}
-use Rattle.vx_model.specs.AllowedLaws.{AllowedLaws}
+use Rattle.vx_model.specs.Allowed.{come_by, is_refusal, IsAllowed}
+use Rattle.vx_model.specs.AllowedLaws.{IsPlaced, AllowedLaws}
 use Rattle.vx_model.specs.Legal.{World, after_all, state_after}
 use Rattle.vx_model.specs.Replays.{ReplaysAs}
 use Rattle.vx_model.specs.State.{State}

@@ -74,8 +74,7 @@ module _ (keeps : (s : State) (path : List ℕ) (mode : ℕ) (done : Done) → I
       let ino = lowest_unused s.layout.units s.tree.nodes in
       let made : reply ≡ say.Made ino = same
       ∙ held (make_as s m.at m.directory m.name (new_file mode) ino) (λ (x : Done). x.reply ≡ say.Made ino) done (made_holds s m.at m.directory m.name (new_file mode) ino) m.made in
-      let new_is : new ≡ done.state = leaves ∙ ap (λ (r : Reply). if is_fault r then s else done.state) made in
-      (
+      let new_is : new ≡ done.state = leaves ∙ ap (λ (r : Reply). if is_fault r then s else done.state) made in (
         subst (λ (r : Reply). IsMaking s new (made_in r)) (sym made) (record { mounted = mounted; mode = mode; mode_limit = low; done = done; makes = m; state_is = new_is; made_is = refl }),
         subst IsLaidOut (sym new_is) (keeps s path mode done mounted.laid_out low is),
       )

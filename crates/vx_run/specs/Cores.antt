@@ -13,7 +13,8 @@ use Rattle.vx_base.specs.Faults.{Rose}
 use Rattle.vx_dev.specs.Tape as dev
 use Rattle.vx_log.specs.Logs.{LogView}
 use Rattle.vx_log.specs.Moments.{Told, Past, Passed}
-use Rattle.vx_model.specs.Allowed.{come_by, is_refusal, IsPlaced, IsAllowed}
+use Rattle.vx_model.specs.Allowed.{come_by, is_refusal, IsAllowed}
+use Rattle.vx_model.specs.AllowedLaws.{IsPlaced}
 use Rattle.vx_model.specs.Replays.{ReplaysAs}
 use Rattle.vx_model.specs.State.{State, fresh}
 use Rattle.vx_model.specs.Step.{step}

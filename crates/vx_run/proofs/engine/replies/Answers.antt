@@ -1,4 +1,3 @@
-use Rattle.vx_run.specs.Cores.{IsReply}
 use Rattle.vx_run.specs.Metadata.{state_of}
 use Rattle.vx_run.proofs.Faultless.{reply_of_step}
 use Rattle.vx_run.proofs.Mounting.{led}

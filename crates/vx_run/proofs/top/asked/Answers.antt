@@ -1,6 +1,5 @@
-use Rattle.std.proofs.Common.{◌≡◌, ◌⊎◌, ℕ, List, Result, Ok, Err, map, sym, ◌∙◌, ap, subst}
+use Rattle.std.proofs.Common.{◌≡◌, ◌⊎◌, ℕ, List, Err, map, sym, ◌∙◌, ap, subst}
 use Rattle.std.specs.Prelude.{IfOk}
-use Rattle.vx_base.specs.declared.call.Call.{Call}
 use Rattle.vx_script.specs.Script.{script_of, IsScript}
 use Rattle.std.specs.String.{string_bytes}
 use Rattle.vx_script.specs.declared.script.ScriptRefusal.TheVariants.{NoMemory}

@@ -6,7 +6,8 @@ use Rattle.vx_base.specs.declared.call.Call.{Call}
 use Rattle.vx_base.specs.declared.event.Event.{Event}
 use Rattle.vx_log.specs.Logs.{LogView, fresh_log}
 use Rattle.vx_log.specs.Moments.{Told, Always}
-use Rattle.vx_model.specs.Allowed.{come_by, IsPlaced, IsAllowed}
+use Rattle.vx_model.specs.Allowed.{come_by, IsAllowed}
+use Rattle.vx_model.specs.AllowedLaws.{IsPlaced}
 use Rattle.vx_model.specs.LaidOut.{IsLaidOut}
 use Rattle.vx_model.specs.Legal.{after_all}
 use Rattle.vx_model.specs.State.{State, fresh}

@@ -8,7 +8,8 @@ use Rattle.vx_model.specs.State.{State}
 use Rattle.vx_model.specs.Legal.{is_fault}
 use Rattle.vx_run.specs.Metadata.{state_of}
 use Rattle.vx_log.specs.Moments.{Told}
-use Rattle.vx_model.specs.Allowed.{come_by, is_refusal, IsPlaced}
+use Rattle.vx_model.specs.Allowed.{come_by, is_refusal}
+use Rattle.vx_model.specs.AllowedLaws.{IsPlaced}
 use Rattle.vx_run.specs.Cores.{IsRun, IsReply, IsReasoned, IsMaking, IsLive}
 use Rattle.vx_run.specs.Journals.{IsMounted}
 use Rattle.vx_run.proofs.Crashing.{live_answered, come_answered, placed_answered}
