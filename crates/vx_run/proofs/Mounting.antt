@@ -18,6 +18,7 @@ use Rattle.vx_model.specs.Step.{has_step}
 use Rattle.vx_model.specs.Tree.{Directory, Node, lowest_unused, new_file}
 use Rattle.vx_run.specs.Cores.{HasMode, IsReply, IsMaking, made_in}
 use Rattle.vx_run.specs.Journals.{IsMounted, IsMade}
+use Rattle.vx_run.specs.States.{new_log_blocks}
 
 -- what holds of the outcome of a call that is not refused
 abbrev Holds : {A : Type 0} → Maybe A → (A → Type 0) → Type 0
@@ -60,6 +61,10 @@ unchanged : (fault : Bool) (s : State) → (if fault then s else s) ≡ s
 unchanged true s = refl
 unchanged false s = refl
 
+-- the log and the units of every new file system
+abbrev pub HasLayout : State → Type 0
+HasLayout s = (s.layout.log_blocks ≡ new_log_blocks) × (s.layout.units ≡ 1)
+
 module _ (keeps : (s : State) (path : List ℕ) (mode : ℕ) (done : Done) → IsLaidOut s → mode ≤ 4095 → create s path mode ≡ Ok done → IsLaidOut done.state)
     (makes : (s : State) (path : List ℕ) (mode : ℕ) (done : Done) → create s path mode ≡ Ok done → Makes s (new_file mode) done) where
   listed : (s new : State) (reply : Reply) (m : Maybe Done) → IsLaidOut s → Holds m (IsListed s) → reply ≡ (settled s m).reply → new ≡ (if is_fault reply then s else (settled s m).state) → Leaves s new reply
@@ -67,30 +72,32 @@ module _ (keeps : (s : State) (path : List ℕ) (mode : ℕ) (done : Done) → I
       same_leaves s new reply is (leaves ∙ ap (λ (x : State). if is_fault reply then s else x) h.0 ∙ unchanged (is_fault reply) s) (ap made_in same ∙ h.1)
   listed s new reply (Err why) is h same leaves = same_leaves s new reply is (leaves ∙ unchanged (is_fault reply) s) (ap made_in same)
 
-  created : (s new : State) (path : List ℕ) (mode : ℕ) (reply : Reply) (m : Maybe Done) → create s path mode ≡ m → mode ≤ 4095 → IsMounted s → reply ≡ (settled s m).reply
+  created : (s new : State) (path : List ℕ) (mode : ℕ) (reply : Reply) (m : Maybe Done) → HasLayout new → create s path mode ≡ m → mode ≤ 4095 → IsMounted s → reply ≡ (settled s m).reply
       → new ≡ (if is_fault reply then s else (settled s m).state) → Leaves s new reply
-  created s new path mode reply (Ok done) is low mounted same leaves =
+  created s new path mode reply (Ok done) layout is low mounted same leaves =
       let m = makes s path mode done is in
       let ino = lowest_unused s.layout.units s.tree.nodes in
       let made : reply ≡ say.Made ino = same
       ∙ held (make_as s m.at m.directory m.name (new_file mode) ino) (λ (x : Done). x.reply ≡ say.Made ino) done (made_holds s m.at m.directory m.name (new_file mode) ino) m.made in
-      let new_is : new ≡ done.state = leaves ∙ ap (λ (r : Reply). if is_fault r then s else done.state) made in (
-        subst (λ (r : Reply). IsMaking s new (made_in r)) (sym made) (record { mounted = mounted; mode = mode; mode_limit = low; done = done; makes = m; state_is = new_is; made_is = refl }),
-        subst IsLaidOut (sym new_is) (keeps s path mode done mounted.laid_out low is),
+      let new_is : new ≡ done.state = leaves ∙ ap (λ (r : Reply). if is_fault r then s else done.state) made in
+      let laid_out : IsLaidOut new = subst IsLaidOut (sym new_is) (keeps s path mode done mounted.laid_out low is) in
+      let new_mounted : IsMounted new = record { laid_out = laid_out; log_blocks = layout.0; units = layout.1 } in (
+        subst (λ (r : Reply). IsMaking s new (made_in r)) (sym made) (record { mounted = mounted; new_mounted = new_mounted; mode = mode; mode_limit = low; done = done; makes = m; state_is = new_is; made_is = refl }),
+        laid_out,
       )
-  created s new path mode reply (Err why) is low mounted same leaves = same_leaves s new reply mounted.laid_out (leaves ∙ unchanged (is_fault reply) s) (ap made_in same)
+  created s new path mode reply (Err why) layout is low mounted same leaves = same_leaves s new reply mounted.laid_out (leaves ∙ unchanged (is_fault reply) s) (ap made_in same)
 
   faulted : (s new done : State) (reply : Reply) → IsLaidOut s → is_fault reply ≡ true → new ≡ (if is_fault reply then s else done) → Leaves s new reply
   faulted s new done reply is fault leaves = same_leaves s new reply is (leaves ∙ ap (λ (b : Bool). if b then s else done) fault) (fault_makes_none reply fault)
 
   -- a call that is built leads to a state of which an image reads as its tree, and its reply says whether an inode was made
-  pub led : (s new : State) (call : Call) (reply : Reply) → has_step call ≡ true → HasMode call → IsMounted s → IsReply s call reply new → Leaves s new reply
-  led s new (call.Create path mode) reply built low mounted is = elim is.reply_is [
-    | inl same ↦ created s new path mode reply (create s path mode) refl low mounted same is.state_is
+  pub led : (s new : State) (call : Call) (reply : Reply) → HasLayout new → has_step call ≡ true → HasMode call → IsMounted s → IsReply s call reply new → Leaves s new reply
+  led s new (call.Create path mode) reply layout built low mounted is = elim is.reply_is [
+    | inl same ↦ created s new path mode reply (create s path mode) layout refl low mounted same is.state_is
     | inr fault ↦ faulted s new (settled s (create s path mode)).state reply mounted.laid_out fault is.state_is
   ]
-  led s new (call.List path) reply built low mounted is = elim is.reply_is [
+  led s new (call.List path) reply layout built low mounted is = elim is.reply_is [
     | inl same ↦ listed s new reply (list s path) mounted.laid_out (list_holds s path) same is.state_is
     | inr fault ↦ faulted s new (settled s (list s path)).state reply mounted.laid_out fault is.state_is
   ]
-  led s new _ reply built low mounted is = absurd (cc)
+  led s new _ reply layout built low mounted is = absurd (cc)
