@@ -1,14 +1,14 @@
 -- A commit and an emptying of the log, from one step to the next.
-use Rattle.std.proofs.Common.{◌≡◌, ◌⊎◌, ◌+◌, ◌≤◌, ◌<◌, ℕ, Bool, List, [], ◌++◌, length, take, refl, sym, ◌∙◌, ap, subst, inl, inr, ⊎_elim, arith}
+use Rattle.std.proofs.Common.{◌≡◌, ◌⊎◌, ◌+◌, ◌≤◌, ◌<◌, ℕ, Bool, List, [], length, refl, sym, ◌∙◌, ap, subst, inl, inr, ⊎_elim, arith}
 use Rattle.std.specs.Prelude.{Result, Ok, Err, OnOk, OnErr, option_map, Option, Some, None, IfSome, IsTrue, slice_range, ◌-◌}
 use Rattle.std.proofs.lemmas.Bool.Decides.{nat_tests}
 use Rattle.vx_dev.specs.declared.device.Operation.{Operation}
 use Rattle.vx_dev.specs.declared.device.Operation.TheVariants.{Put, Barrier}
 use Rattle.vx_dev.specs.Tape.{Tape, State, Did, DidNothing, Failed, did, tried, IsImage}
-use Rattle.vx_dev.proofs.Tapes.{told_did, told_either, told_nothing, tried_writes}
+use Rattle.vx_dev.proofs.Tapes.{told_did, told_either, tried_writes}
 use Rattle.vx_layout.specs.LogForms.{AfterImage, LogState, ReadsAs, log_length, body_of, records_of, head_of, head_sector}
 use Rattle.vx_log.specs.Runs.{did_all, Ran, puts, BrokeOff, log_writes}
-use Rattle.vx_log.specs.Crashes.{IsApart, Holds, Stands, Either, Turns, Covers, grown, emptied, IsPutHome, IsHome}
+use Rattle.vx_log.specs.Crashes.{IsApart, Holds, Stands, Either, Turns, Covers, grown, emptied, IsHome}
 use Rattle.vx_log.specs.Logs.{LogView, stage_end, stage_writes, after_stage, is_body_out, closed, closing_length, next_serial}
 use Rattle.vx_log.specs.Readings.{IsReading, Commits}
 use Rattle.vx_dev.specs.declared.device.DevFault.{DevFault}
@@ -19,7 +19,7 @@ use Rattle.vx_log.proofs.Bodies.{length-body}
 use Rattle.vx_log.proofs.Commits.{certain_body, holds_grown, holds_emptied}
 use Rattle.vx_log.proofs.HomeWrites.{home_stable, all_home}
 use Rattle.vx_log.proofs.Operations.{stands_barrier, holds_barrier, turn, turn_failed, not_turned, turned, reads, reads_either}
-use Rattle.vx_log.proofs.Passing.{Shows, passed_join, passed_past, passed_did, passed_still, passed_weaker, told_weaker}
+use Rattle.vx_log.proofs.Passing.{Shows, passed_join, passed_past, passed_did, passed_still, told_weaker}
 use Rattle.vx_log.proofs.StageRuns.{Putting, WritingHome, body_stage, body_broken, home_stage, home_broken}
 use Rattle.vx_log.proofs.Times.{past_start}
 

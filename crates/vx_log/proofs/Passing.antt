@@ -1,10 +1,10 @@
 -- A claim on each image at each moment, from one state of the device to another.
-use Rattle.std.proofs.Common.{◌≡◌, ◌+◌, ◌≤◌, ℕ, List, [], ◌∷◌, ◌++◌, length, take, refl, sym, ◌∙◌, ap, subst, inl, inr, arith, append_assoc, length-append}
+use Rattle.std.proofs.Common.{◌≡◌, ◌≤◌, ℕ, List, [], ◌∷◌, ◌++◌, length, refl, sym, ◌∙◌, ap, subst, inl, inr, arith, append_assoc, length-append}
 use Rattle.std.specs.Prelude.{option_map, Option, Some, None, IfSome}
 use Rattle.std.proofs.lemmas.Bool.{cases_lt}
 use Rattle.std.proofs.lemmas.List.{append-nil, take-append-le}
 use Rattle.vx_dev.specs.declared.device.Operation.{Operation}
-use Rattle.vx_dev.specs.Tape.{Tape, State, Did, DidNothing, did, upto, IsImage}
+use Rattle.vx_dev.specs.Tape.{Tape, State, Did, did, upto, IsImage}
 use Rattle.vx_log.specs.Runs.{did_all}
 use Rattle.vx_log.specs.Moments.{Told, Past, Always, Passed}
 use Rattle.vx_log.proofs.Times.{past_did, past_start, always}

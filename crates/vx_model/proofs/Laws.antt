@@ -1,5 +1,5 @@
 -- What holds of each call's outcome, put together from its lines.
-use Rattle.std.proofs.Common.{◌≡◌, ℕ, Bool, true, false, List, Result, Ok, Err, refl}
+use Rattle.std.proofs.Common.{◌≡◌, ℕ, Bool, true, false, List, Ok, Err, refl}
 use Rattle.vx_base.specs.declared.refusal.Refusal.{Refusal}
 use Rattle.vx_model.specs.Outcome.{Maybe, unless, ◌>>=◌}
 use Rattle.vx_model.specs.State.{State, Done, settled}

@@ -1,5 +1,5 @@
 -- Histories, one event at a time.
-use Rattle.std.proofs.Common.{◌≡◌, ℕ, ◌+◌, List, [], ◌∷◌, ◌++◌, length, refl, sym, ◌∙◌, ap, arith}
+use Rattle.std.proofs.Common.{◌≡◌, List, [], ◌∷◌, ◌++◌, refl}
 use Rattle.vx_base.specs.declared.event.Event.{Event}
 use Rattle.vx_model.specs.Legal.{World, after, after_all, Allowed, Legal}
 

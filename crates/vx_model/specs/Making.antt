@@ -1,14 +1,14 @@
 -- create
-use Rattle.std.specs.Prelude.{ℕ, ◌-◌, ◌*◌, nat_lt, List, is_none, Option, Some, None, Result, Ok, Err}
+use Rattle.std.specs.Prelude.{ℕ, ◌-◌, ◌*◌, nat_lt, List, is_none, Ok}
 use Rattle.std.specs.FinMap as map
 use Rattle.vx_base.specs.declared.refusal.Refusal.TheVariants as no
 use Rattle.vx_base.specs.declared.reply.Reply.TheVariants as say
 use Rattle.vx_base.specs.Paths.{FileName}
 use Rattle.vx_model.specs.Outcome.{Maybe, unless, ◌>>=◌, need}
 use Rattle.vx_model.specs.Tree.{Tree, Node, Directory, IsDirectory, lowest_unused, new_file}
-use Rattle.vx_model.specs.Layout.{Layout, add_entry}
+use Rattle.vx_model.specs.Layout.{add_entry}
 use Rattle.vx_model.specs.State.{State, Done}
-use Rattle.vx_model.specs.Paths.{PathEnd, path_end}
+use Rattle.vx_model.specs.Paths.{path_end}
 use Rattle.vx_model.specs.Walks.{root, walk, names_of, directory_at}
 
 -- the directory with one more name

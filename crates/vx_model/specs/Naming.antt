@@ -1,5 +1,5 @@
 -- list
-use Rattle.std.specs.Prelude.{ℕ, List, Result, Ok, Err}
+use Rattle.std.specs.Prelude.{ℕ, List, Ok}
 use Rattle.std.specs.FinMap as map
 use Rattle.vx_base.specs.declared.reply.Reply.TheVariants as say
 use Rattle.vx_base.specs.Paths.{FileName}

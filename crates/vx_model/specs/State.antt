@@ -1,5 +1,5 @@
 -- What a mount stands for at one moment, and what a call leaves.
-use Rattle.std.specs.Prelude.{ℕ, Result, Ok, Err}
+use Rattle.std.specs.Prelude.{ℕ, Ok, Err}
 use Rattle.std.specs.FinMap as map
 use Rattle.vx_base.specs.declared.reply.Reply.{Reply}
 use Rattle.vx_base.specs.declared.reply.Reply.TheVariants as say

@@ -1,5 +1,5 @@
 -- What a crash may leave, from one call to the next.
-use Rattle.std.proofs.Common.{◌≡◌, ◌⊎◌, ℕ, ◌+◌, ◌<◌, ◌≤◌, true, List, [], ◌∷◌, ◌++◌, length, take, Option, Some, None, refl, sym, ◌∙◌, ap, subst, inl, inr, arith, rules, length-append, append_assoc, append-nil}
+use Rattle.std.proofs.Common.{◌≡◌, ◌⊎◌, ℕ, ◌+◌, ◌<◌, ◌≤◌, true, List, [], ◌∷◌, ◌++◌, length, Option, Some, None, refl, sym, ◌∙◌, ap, subst, inl, inr, arith, length-append, append_assoc, append-nil}
 use Rattle.std.specs.Prelude.{IfSome, IsSome, All, option_map}
 use Rattle.std.proofs.lemmas.Bool.{cases_lt}
 use Rattle.std.proofs.lemmas.List.{take-append-le, take_all}
@@ -11,7 +11,7 @@ use Rattle.vx_dev.specs.declared.device.Operation.{Operation}
 use Rattle.vx_dev.specs.Tape as dev
 use Rattle.vx_dev.specs.Tape.{Tape, upto, IsImage, IsInStep}
 use Rattle.vx_log.specs.Logs.{LogView}
-use Rattle.vx_log.specs.Moments.{Told, Past, Always, Passed}
+use Rattle.vx_log.specs.Moments.{Told, Past, Always}
 use Rattle.vx_log.specs.Runs.{did_all}
 use Rattle.vx_model.specs.Allowed.{come_by, is_refusal, IsAllowed}
 use Rattle.vx_model.specs.AllowedLaws.{IsPlaced, AllowedLaws}

@@ -1,5 +1,5 @@
 -- A run's output, and what is known of it.
-use Rattle.std.proofs.Common.{◌≡◌, ℕ, Bool, true, false, not, List, Option, Some, None, Result, Ok, Err, refl, sym, ◌∙◌, subst, rules}
+use Rattle.std.proofs.Common.{◌≡◌, ℕ, Bool, true, false, not, List, Option, Some, None, Result, Ok, Err, refl, sym, ◌∙◌, rules}
 use Rattle.std.specs.Prelude.{OnOk, OnErr, is_ok, is_none, is_some, IsSome}
 use Rattle.std.specs.Io.KnownBytes.{Appends}
 use Rattle.vx_base.specs.Faults.{HasCause}

@@ -1,11 +1,11 @@
 -- Replies of calls that ran are no faults.
-use Rattle.std.proofs.Common.{◌≡◌, ◌⊎◌, Bool, true, false, Option, Some, None, inl, sym, ap, ◌∙◌, refl}
+use Rattle.std.proofs.Common.{◌≡◌, ◌⊎◌, true, false, Option, Some, None, inl, sym, ap, ◌∙◌, refl}
 use Rattle.vx_base.specs.declared.call.Call.{Call}
 use Rattle.vx_base.specs.declared.reply.Reply.{Reply}
 use Rattle.vx_base.specs.declared.reply.Reply.TheVariants as say
 use Rattle.vx_model.specs.State.{State, Done}
 use Rattle.vx_model.specs.Step.{step}
-use Rattle.vx_model.specs.Legal.{IfThere, is_fault, state_after, state_after_step}
+use Rattle.vx_model.specs.Legal.{IfThere, is_fault, state_after_step}
 use Rattle.std.specs.Prelude.{if◌then◌else◌}
 use Rattle.vx_run.specs.Replies.{IsSound}
 use Rattle.vx_run.specs.Cores.{IsReply}

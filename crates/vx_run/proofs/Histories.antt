@@ -1,7 +1,6 @@
 -- A call and its answer, behind a legal history.
-use Rattle.std.proofs.Common.{◌≡◌, ◌⊎◌, ℕ, ◌+◌, ◌≤◌, ◌<◌, Bool, true, false, not, List, [], ◌∷◌, ◌++◌, length, map as mapped, Option, Some, None, refl, sym, ◌∙◌, ap, subst, inl, inr, arith, rules, length-append, append-nil}
+use Rattle.std.proofs.Common.{◌≡◌, ◌⊎◌, ℕ, ◌+◌, ◌≤◌, Bool, true, false, not, List, [], ◌∷◌, ◌++◌, length, map as mapped, Option, Some, None, refl, sym, ◌∙◌, ap, subst, inl, inr, arith, length-append, append-nil}
 use Rattle.std.proofs.lemmas.List.Elements.{filter_map-append, All-push}
-use Rattle.std.proofs.lemmas.Bool.Decides.{nat_tests}
 use Rattle.std.specs.Prelude.{◌&&◌, nat_eq, nat_lt, filter_map, All}
 use Rattle.std.specs.List.{list_any}
 use Rattle.std.specs.Ordering.{nat_cmp}
@@ -13,7 +12,7 @@ use Rattle.vx_base.specs.declared.event.Event.TheVariants as event
 use Rattle.vx_base.proofs.Maps.{at_key, taken_back}
 use Rattle.vx_model.specs.State.{State}
 use Rattle.vx_model.specs.Step.{step}
-use Rattle.vx_model.specs.Legal.{World, Waiting, after, after_all, Legal, Allowed, IfThere, is_fault, is_idle, state_after, RetAllowed}
+use Rattle.vx_model.specs.Legal.{World, Waiting, after, after_all, Legal, Allowed, IfThere, is_fault, state_after, RetAllowed}
 use Rattle.vx_model.proofs.Runs.{after_all-append, Legal-push}
 use Rattle.vx_dev.specs.Tape as dev
 use Rattle.vx_run.specs.Devices.{Onward}

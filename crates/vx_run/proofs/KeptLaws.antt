@@ -11,11 +11,11 @@ use Rattle.vx_dev.specs.declared.device.DevFault.{DevFault}
 use Rattle.vx_dev.specs.declared.device.Operation.{Operation}
 use Rattle.vx_dev.specs.declared.device.Operation.TheVariants.{Put, Barrier}
 use Rattle.vx_dev.specs.Tape.{Tape, State as Device, Did, DidNothing, Failed, did, tried, Writes, MayHold, now, Settles, IsImage}
-use Rattle.vx_layout.specs.LogForms.{AfterImage, LogState, ReadsAs, log_at, log_length, body_of, records_of, overlay, overlay_all, head_sector, log_sectors}
-use Rattle.vx_layout.specs.Supers.{super_bytes, volume_of}
+use Rattle.vx_layout.specs.LogForms.{AfterImage, LogState, ReadsAs, log_length, records_of, overlay, overlay_all, head_sector, log_sectors}
+use Rattle.vx_layout.specs.Supers.{super_bytes}
 use Rattle.vx_log.specs.Batches.{sectors_of}
-use Rattle.vx_log.specs.Crashes.{IsApart, Stands, IsDecided, IsFree, grown, emptied, IsPutHome}
-use Rattle.vx_log.specs.Logs.{LogView, IsHomeSector, next_serial, closed, opened, advanced}
+use Rattle.vx_log.specs.Crashes.{IsApart, Stands, grown, emptied, IsPutHome}
+use Rattle.vx_log.specs.Logs.{LogView, IsHomeSector, next_serial, advanced}
 use Rattle.vx_log.specs.Moments.{Told, Always, Passed}
 use Rattle.vx_log.specs.Readings.{IsReading, Commits}
 use Rattle.vx_log.specs.Runs.{did_all, Ran, BrokeOff, puts}
@@ -29,7 +29,7 @@ use Rattle.vx_model.specs.Tree.{Node, Directory, IsDirectory, new_file, lowest_u
 use Rattle.vx_model.specs.Images as images
 use Rattle.vx_model.specs.Images.{Parsed, is_metadata, content_at, Changes, SameBut, IsBatch, Says}
 use Rattle.vx_model.specs.Reads.{ImageReadsAs}
-use Rattle.vx_model.specs.Replays.{ReplaysAs, IsClean}
+use Rattle.vx_model.specs.Replays.{ReplaysAs}
 use Rattle.vx_model.specs.State.{State, Done}
 use Rattle.vx_run.specs.Devices.{IsInside}
 use Rattle.vx_run.specs.Journals.{IsMounted, superblock_of, IsMade, IsReadingOf, noted_at, IsNoted, IsKept, IsLeft}
@@ -320,7 +320,7 @@ module _ (laws : JournalLaws) where
 
   module _ (old new : State) (batch : List AfterImage) (step : IsStep old new batch) (log : LogView) (sectors : log.sectors ≡ 1024) (homes : List (Option (List ℕ))) (count : length homes ≡ 68) (a b : Device)
       (passed : (r : LogState) (is_metadata : ℕ → Bool) → Commits log r batch is_metadata → Told a (Stands log.sectors r)
-          → Passed (λ image. ReadsAs log.sectors r image ⊎ ReadsAs log.sectors (grown r (records_of batch) is_metadata) image) a b) where
+      → Passed (λ image. ReadsAs log.sectors r image ⊎ ReadsAs log.sectors (grown r (records_of batch) is_metadata) image) a b) where
     abbrev One : (ℕ → List ℕ) → Type 0
     One image = ReplaysAs image old.tree ⊎ ReplaysAs image new.tree
 
@@ -640,7 +640,7 @@ ChangesLaw = (s : State) (at : ℕ) (d : Directory) (name : FileName) (node : No
 
 pub made_step : (changes : ChangesLaw) (s new : State) (made : ℕ) (batch : List AfterImage) → (m : IsMade s new made)
     → ((t : State) (mode : ℕ) (done : Done) → IsLaidOut t → (makes : Makes t (new_file mode) done) → new ≡ done.state → made ≡ lowest_unused t.layout.units t.tree.nodes
-        → IsBatch (volume t.layout) (parsed_of done.state) (entry_changes t.layout makes.at (record { ino = made; name = makes.name }) done.state.layout) batch)
+    → IsBatch (volume t.layout) (parsed_of done.state) (entry_changes t.layout makes.at (record { ino = made; name = makes.name }) done.state.layout) batch)
     → All IsInside batch → IsStep s new batch
 made_step changes s new made batch m is_batch inside =
     let k = m.makes in

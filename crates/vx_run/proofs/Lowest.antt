@@ -1,5 +1,5 @@
 -- The lowest number without a node, one number at a time.
-use Rattle.std.proofs.Common.{◌≡◌, ℕ, suc, ◌+◌, ◌-◌, ◌*◌, ◌<◌, nat_lt, true, refl, sym, ◌∙◌, ap, Option, Some, None, Bool, false, arith, nat_eq}
+use Rattle.std.proofs.Common.{◌≡◌, ℕ, suc, ◌+◌, ◌-◌, ◌<◌, true, refl, sym, ◌∙◌, ap, Option, Some, None, Bool, false, arith, nat_eq}
 use Rattle.std.specs.Cmp.{nat_cmp_total, unsigned_tied}
 use Rattle.std.specs.FinMap.{get-insert, same_map, nat_cmp-IsAntisymmetric}
 use Rattle.std.proofs.lemmas.Bool.Decides.{nat_tests}
@@ -10,7 +10,7 @@ use Rattle.std.specs.Ordering.{nat_cmp, eq_by_cmp}
 use Rattle.std.specs.Prelude.{is_some, is_none, cond, ◌&&◌}
 use Rattle.std.specs.Option.{option_map}
 use Rattle.std.specs.FinMap as map
-use Rattle.vx_model.specs.Tree.{Tree, Nodes, Node, Directory, IsDirectory, lowest_absent, lowest_unused}
+use Rattle.vx_model.specs.Tree.{Nodes, Node, Directory, IsDirectory, lowest_absent}
 
 -- past a number that has a node
 pub lowest_step : (nodes : Nodes) (end i : ℕ) → i < end → is_some (map.get nodes i) ≡ true → lowest_absent nodes (end - (i + 1)) (i + 1) ≡ lowest_absent nodes (end - i) i

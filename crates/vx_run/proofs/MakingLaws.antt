@@ -1,8 +1,7 @@
 -- What a create does to the root's block, and to the state.
-use Rattle.std.proofs.Common.{◌≡◌, ℕ, ◌+◌, ◌*◌, ◌<◌, nat_lt, ◌++◌, Bool, true, false, List, [], ◌∷◌, length, Option, Some, None, Result, Ok, Err, refl, sym, ◌∙◌, ap, subst, arith, cond, zero, suc}
-use Rattle.std.specs.Prelude.{nat_le, ◌||◌, ◌==◌, if◌then◌else◌}
+use Rattle.std.proofs.Common.{◌≡◌, ℕ, ◌+◌, ◌<◌, nat_lt, ◌++◌, Bool, true, false, List, [], ◌∷◌, length, Some, None, Ok, Err, refl, sym, ◌∙◌, ap, subst, arith, cond, suc}
+use Rattle.std.specs.Prelude.{◌||◌, ◌==◌}
 use Rattle.std.specs.Option.{unwrap_or}
-use Rattle.std.specs.List.{sum_by}
 use Rattle.std.proofs.lemmas.List.Sums.{sum_by_push}
 use Rattle.std.proofs.lemmas.Bool.Decides.{nat_tests}
 use Rattle.std.specs.Ordering.{nat_cmp}
@@ -12,12 +11,11 @@ use Rattle.vx_base.specs.declared.refusal.Refusal.TheVariants as no
 use Rattle.vx_base.specs.declared.reply.Reply.TheVariants as say
 use Rattle.vx_base.specs.Paths.{FileName}
 use Rattle.vx_base.proofs.Maps.{at_key, put_again}
-use Rattle.vx_model.specs.Outcome.{Maybe}
 use Rattle.vx_model.specs.Tree.{Nodes, Node, Directory, IsDirectory, lowest_unused}
-use Rattle.vx_model.specs.Layout.{Layout, DirectoryBlock, Directories, used_by, entry_size, add_entry, add_among, with_blocks, with_new_block, with_entry, blocks_at, has_room}
-use Rattle.vx_model.specs.State.{State, Done, settled}
-use Rattle.vx_model.specs.Making.{make_at, make_as, added, with_name}
-use Rattle.vx_run.specs.States.{OnlyRoot, state_by, layout_of, directories_of, has_place, new_log_blocks}
+use Rattle.vx_model.specs.Layout.{Layout, DirectoryBlock, Directories, used_by, entry_size, add_entry, add_among, with_blocks, with_new_block, blocks_at, has_room}
+use Rattle.vx_model.specs.State.{settled}
+use Rattle.vx_model.specs.Making.{make_at, with_name}
+use Rattle.vx_run.specs.States.{state_by, layout_of, has_place, new_log_blocks}
 
 pub used_more : (used : ℕ) (es items : List DirEntry) (ino : ℕ) (name n : List ℕ) → used ≡ used_by es → items ≡ es ++ record { ino = ino; name = name } ∷ [] → name ≡ n → used + (5 + length n) ≡ used_by items
 used_more used es items ino name n is more same =

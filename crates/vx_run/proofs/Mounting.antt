@@ -1,5 +1,5 @@
 -- The states that a mount comes to by its calls.
-use Rattle.std.proofs.Common.{◌≡◌, ◌⊎◌, ℕ, ◌≤◌, Bool, true, false, List, Option, Some, None, Ok, Err, refl, sym, ◌∙◌, ap, subst, inl, inr}
+use Rattle.std.proofs.Common.{◌≡◌, ℕ, ◌≤◌, Bool, true, false, List, Option, None, Ok, Err, refl, sym, ◌∙◌, ap, subst, inl, inr}
 use Rattle.std.specs.Prelude.{if◌then◌else◌}
 use Rattle.vx_base.specs.declared.call.Call.{Call}
 use Rattle.vx_base.specs.declared.call.Call.TheVariants as call
@@ -8,8 +8,7 @@ use Rattle.vx_base.specs.declared.reply.Reply.{Reply}
 use Rattle.vx_base.specs.declared.reply.Reply.TheVariants as say
 use Rattle.vx_base.specs.Paths.{FileName}
 use Rattle.vx_model.specs.LaidOut.{IsLaidOut, Makes}
-use Rattle.vx_model.specs.Layout.{Layout}
-use Rattle.vx_model.specs.Legal.{is_any_time, is_fault}
+use Rattle.vx_model.specs.Legal.{is_fault}
 use Rattle.vx_model.specs.Making.{create, make_as}
 use Rattle.vx_model.specs.Naming.{list}
 use Rattle.vx_model.specs.Outcome.{Maybe, unless, ◌>>=◌}
@@ -17,7 +16,7 @@ use Rattle.vx_model.specs.State.{State, Done, settled}
 use Rattle.vx_model.specs.Step.{has_step}
 use Rattle.vx_model.specs.Tree.{Directory, Node, lowest_unused, new_file}
 use Rattle.vx_run.specs.Cores.{HasMode, IsReply, IsMaking, made_in}
-use Rattle.vx_run.specs.Journals.{IsMounted, IsMade}
+use Rattle.vx_run.specs.Journals.{IsMounted}
 use Rattle.vx_run.specs.States.{new_log_blocks}
 
 -- what holds of the outcome of a call that is not refused

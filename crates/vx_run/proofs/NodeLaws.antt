@@ -1,13 +1,12 @@
 -- Nodes in slots.
-use Rattle.std.proofs.Common.{◌≡◌, ℕ, ◌<◌, ◌≤◌, List, [], ◌∷◌, length, Option, Some, None, refl, sym, ◌∙◌, ap, subst, rules, arith, set, get_or}
+use Rattle.std.proofs.Common.{◌≡◌, ℕ, ◌<◌, ◌≤◌, List, length, Option, Some, None, refl, sym, ◌∙◌, ap, set, get_or}
 use Rattle.std.specs.Borrow.{Bor}
 use Rattle.std.specs.Option.{option_map, option_copied}
 use Rattle.std.specs.FinMap as map
 use Rattle.std.proofs.lemmas.List.{set-get_or}
-use Rattle.vx_model.specs.Tree.{Node, Nodes}
 use Rattle.vx_base.specs.Paths.{FileName}
 use Rattle.vx_run.specs.declared.node.PlainNode.{PlainNode}
-use Rattle.vx_run.specs.Slots.{by_number, slot_at}
+use Rattle.vx_run.specs.Slots.{by_number}
 use Rattle.vx_run.specs.Nodes.{node_of, named, with_entry, if_there}
 use Rattle.vx_run.proofs.SlotLaws.{get_at, set_slot, at_index, at_past}
 

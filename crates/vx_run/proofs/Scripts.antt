@@ -1,6 +1,6 @@
 -- What a script that was read asks for.
-use Rattle.std.proofs.Common.{◌≡◌, ◌⊎◌, ℕ, ◌+◌, ◌<◌, ◌≤◌, Bool, true, false, nat_lt, List, [], ◌∷◌, length, take, Option, Some, None, Result, Ok, Err, IfOk, refl, sym, ◌∙◌, ap, subst, inl, inr, arith, cond}
-use Rattle.std.specs.Prelude.{IfSome, All, if◌then◌else◌}
+use Rattle.std.proofs.Common.{◌≡◌, ◌⊎◌, ℕ, ◌<◌, true, nat_lt, List, length, take, Option, Some, None, Result, Ok, Err, IfOk, refl, sym, ◌∙◌, ap, subst, inl, inr, arith}
+use Rattle.std.specs.Prelude.{All}
 use Rattle.std.proofs.lemmas.Bool.{cases_lt}
 use Rattle.std.proofs.lemmas.Bool.Decides.{nat_tests}
 use Rattle.std.proofs.lemmas.List.{take_all, length-take}
@@ -8,8 +8,7 @@ use Rattle.vx_base.specs.declared.call.Call.{Call}
 use Rattle.vx_base.specs.declared.call.Call.TheVariants as call
 use Rattle.vx_model.specs.Step.{has_step}
 use Rattle.vx_dev.specs.Tape as dev
-use Rattle.vx_script.specs.Script.{script_of, most_bytes, calls_of_lines, IsScript, IsScriptCall}
-use Rattle.vx_script.specs.Lines.{lines_of}
+use Rattle.vx_script.specs.Script.{script_of, most_bytes, IsScript, IsScriptCall}
 use Rattle.vx_script.specs.Start.{start_of}
 use Rattle.vx_script.specs.declared.script.ScriptRefusal.{ScriptRefusal}
 use Rattle.vx_script.specs.declared.script.ScriptRefusal.TheVariants as script

@@ -1,12 +1,12 @@
 -- What the metadata in memory say of the root's inode.
-use Rattle.std.proofs.Common.{◌≡◌, ℕ, List, [], ◌∷◌, Option, Some, None, refl, sym, ap, subst, ◌∙◌}
+use Rattle.std.proofs.Common.{◌≡◌, ℕ, List, [], ◌∷◌, Option, Some, sym, ap, ◌∙◌}
 use Rattle.std.specs.Option.{option_map, unwrap_or}
 use Rattle.std.specs.Ordering.{nat_cmp}
 use Rattle.std.specs.FinMap as map
 use Rattle.vx_base.specs.declared.inode.DirEntry.{DirEntry}
 use Rattle.vx_base.specs.declared.inode.InodeValue.{InodeValue}
 use Rattle.vx_base.proofs.Maps.{at_key}
-use Rattle.vx_model.specs.Tree.{Node, Nodes, Directory, IsDirectory}
+use Rattle.vx_model.specs.Tree.{Nodes, Directory, IsDirectory}
 use Rattle.vx_model.specs.Layout.{DirectoryBlock, Directories, blocks_at}
 use Rattle.vx_model.specs.Contents.{inode_for, inode_value}
 use Rattle.vx_run.specs.States.{layout_of, state_by}

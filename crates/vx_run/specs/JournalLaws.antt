@@ -1,7 +1,7 @@
 -- What a journal rests on: laws of the tape, of the log and of images, as it uses them.
-use Rattle.std.specs.Prelude.{◌≡◌, ◌≢◌, ◌⊎◌, ◌<◌, ◌≤◌, ◌++◌, ℕ, Bool, true, false, IsTrue, List, length, Contains}
+use Rattle.std.specs.Prelude.{◌≡◌, ◌≢◌, ◌⊎◌, ◌≤◌, ℕ, Bool, false, IsTrue, List, length, Contains}
 use Rattle.vx_dev.specs.declared.device.Operation.{Operation}
-use Rattle.vx_dev.specs.declared.device.Operation.TheVariants.{Put, Barrier}
+use Rattle.vx_dev.specs.declared.device.Operation.TheVariants.{Barrier}
 use Rattle.vx_dev.specs.Laws.{TapeLaws}
 use Rattle.vx_dev.specs.Tape.{Tape, State as Device, Writes, did, IsImage}
 use Rattle.vx_layout.specs.LogForms.{AfterImage, LogState, ReadsAs, log_length, body_of, records_of, overlay, overlay_all}

@@ -1,12 +1,11 @@
 -- A journal between two transactions, and what it knows of its device.
-use Rattle.std.specs.Prelude.{◌≡◌, ◌-◌, ◌≤◌, ℕ, Bool, false, IsTrue, nat_lt, List, [], length, get_or, Option, Some, None, if◌then◌else◌}
+use Rattle.std.specs.Prelude.{◌≡◌, ◌-◌, ◌≤◌, ℕ, Bool, false, IsTrue, nat_lt, List, [], get_or, Option, Some, None, if◌then◌else◌}
 use Rattle.vx_dev.specs.Tape.{Tape, MayHold, now}
-use Rattle.vx_layout.specs.LogForms.{LogState, log_length, overlay_all}
+use Rattle.vx_layout.specs.LogForms.{LogState, overlay_all}
 use Rattle.vx_layout.specs.Supers.{super_bytes}
 use Rattle.vx_layout.specs.declared.superblock.Super.{Super}
 use Rattle.vx_log.specs.Crashes.{Stands, IsDecided}
 use Rattle.vx_log.specs.Logs.{LogView}
-use Rattle.vx_log.specs.declared.log.Closing.{Closing}
 use Rattle.vx_model.specs.Contents.{volume, parsed_of}
 use Rattle.vx_model.specs.Images.{Says}
 use Rattle.vx_model.specs.LaidOut.{IsLaidOut, Makes}

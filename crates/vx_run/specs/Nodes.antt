@@ -1,5 +1,5 @@
 -- The program's nodes as nodes of the tree.
-use Rattle.std.specs.Prelude.{ℕ, List, Option, Some, None}
+use Rattle.std.specs.Prelude.{ℕ, Option, Some, None}
 use Rattle.std.specs.FinMap as map
 use Rattle.vx_run.specs.declared.node.PlainNode.{PlainNode}
 use Rattle.vx_run.specs.declared.node.PlainNode.TheVariants as plain

@@ -1,5 +1,5 @@
 -- What a run comes to, before its output.
-use Rattle.std.specs.Prelude.{ℕ, ◌<◌, ◌^◌, length}
+use Rattle.std.specs.Prelude.{◌<◌, ◌^◌, length}
 use Rattle.vx_run.specs.declared.outcome.Outcome.{Outcome}
 use Rattle.vx_run.specs.declared.outcome.Outcome.TheVariants.{Refused, Finished}
 use Rattle.vx_run.specs.Ends.{End, refused, finished}

@@ -10,7 +10,7 @@ use Rattle.vx_log.specs.Batches.{batch_set}
 use Rattle.vx_model.specs.Layout.{DirectoryBlock}
 use Rattle.vx_model.specs.State.{State}
 use Rattle.vx_model.specs.Contents.{inode_value, fresh_root}
-use Rattle.vx_run.specs.States.{new_log_blocks, state_by}
+use Rattle.vx_run.specs.States.{new_log_blocks}
 
 -- the root's blocks, by its entries
 abbrev pub root_blocks : List DirEntry → List DirectoryBlock

@@ -1,11 +1,4 @@
-use Rattle.std.proofs.Common.{◌≡◌, ◌∙◌, ◌≤◌, ℕ, List, length, refl, sym, ap, subst, arith, rules}
-use Rattle.std.specs.Prelude.{IsSome, Option, Some, option_map}
-use Rattle.vx_layout.specs.LogForms.{AfterImage, LogState, ReadsAs, log_length, body_of}
-use Rattle.vx_log.specs.Logs.{LogView, stage_writes, after_stage}
-use Rattle.vx_log.specs.Moments.{Told, Passed}
-use Rattle.vx_log.specs.Runs.{Ran, BrokeOff, puts}
-use Rattle.vx_log.specs.Stages.{IsBodyPut}
-use Rattle.vx_log.specs.declared.log.Closing.{Closing}
+use Rattle.std.proofs.Common.{◌∙◌, refl, arith, rules}
 use Rattle.vx_log.proofs.CommitRuns.{begins, next_same, next_from, broken_from, out_from}
 use Rattle.vx_log.proofs.commit.put_all.Goals as goal
 

@@ -1,5 +1,5 @@
 use Rattle.std.proofs.Common.{◌≡◌, ◌≤◌, ℕ, List, length}
-use Rattle.std.specs.Prelude.{IsSome, Some, option_map}
+use Rattle.std.specs.Prelude.{IsSome, option_map}
 use Rattle.vx_layout.specs.LogForms.{AfterImage, LogState, ReadsAs, log_length}
 use Rattle.vx_log.specs.Crashes.{Stands}
 use Rattle.vx_log.specs.Moments.{Told, Passed}

@@ -1,4 +1,4 @@
-use Rattle.std.proofs.Common.{false, arith, lit<, lit≤}
+use Rattle.std.proofs.Common.{false, lit<}
 use Rattle.vx_run.specs.Journals.{superblock_of}
 use Rattle.vx_run.specs.JournalLaws.{unit_volume}
 use Rattle.vx_run.proofs.laws.journal_laws.Goals as goal

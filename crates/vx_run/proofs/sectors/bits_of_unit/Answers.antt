@@ -1,4 +1,4 @@
-use Rattle.std.proofs.Common.{◌≡◌, ◌∙◌, ℕ, ◌<◌, false, length, get_or, nat_lt, sym, subst, arith, rules}
+use Rattle.std.proofs.Common.{◌≡◌, ◌∙◌, ℕ, false, get_or, nat_lt, sym, subst, arith, rules}
 use Rattle.vx_run.proofs.BitLaws.{none_set, not_below_zero, one_more, bitmap_is}
 use Rattle.vx_run.proofs.sectors.bits_of_unit.Goals as goal
 

@@ -1,4 +1,4 @@
-use Rattle.std.proofs.Common.{◌≡◌, List, arith, ap, ◌∙◌, length, subst, sym}
+use Rattle.std.proofs.Common.{List, arith, ap, length, subst, sym}
 use Rattle.std.specs.Prelude.{All, ◌<◌}
 use Rattle.vx_base.specs.declared.inode.DirEntry.{DirEntry}
 use Rattle.vx_layout.specs.Dirs.{entries_bytes}

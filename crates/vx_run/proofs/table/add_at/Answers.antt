@@ -1,4 +1,4 @@
-use Rattle.std.proofs.Common.{◌≡◌, ◌∙◌, ap, arith}
+use Rattle.std.proofs.Common.{◌∙◌, ap, arith}
 use Rattle.std.specs.FinMap as map
 use Rattle.vx_run.specs.Nodes.{node_of}
 use Rattle.vx_run.proofs.SlotLaws.{set_slot}

@@ -1,6 +1,5 @@
-use Rattle.std.proofs.Common.{◌≡◌, sym, ◌∙◌, ap, arith, rules, ◌+◌, ◌*◌}
+use Rattle.std.proofs.Common.{sym, ◌∙◌, ap, rules, ◌+◌, ◌*◌}
 use Rattle.std.specs.Prelude.{is_some}
-use Rattle.vx_run.specs.Nodes.{node_of}
 use Rattle.vx_run.proofs.Lowest.{lowest_step, some_after_map}
 use Rattle.vx_run.proofs.table.lowest_unused.Goals as goal
 

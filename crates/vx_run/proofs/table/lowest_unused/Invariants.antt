@@ -1,4 +1,4 @@
-use Rattle.std.proofs.Common.{◌≡◌, ◌-◌, ◌*◌}
+use Rattle.std.proofs.Common.{◌≡◌, ◌-◌}
 use Rattle.vx_model.specs.Tree.{lowest_absent, lowest_unused}
 use Rattle.vx_run.proofs.table.lowest_unused.Given as goal
 

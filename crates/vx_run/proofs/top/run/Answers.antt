@@ -1,4 +1,3 @@
-use Rattle.std.proofs.Common.{◌≡◌, refl, ◌∙◌}
 use Rattle.std.specs.Prelude.{is_ok}
 use Rattle.vx_run.specs.Ends.{refused}
 use Rattle.vx_run.proofs.Ending.{takes_of}

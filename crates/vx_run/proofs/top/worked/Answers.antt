@@ -2,9 +2,8 @@ use Rattle.std.proofs.Common.{◌≡◌, ℕ, ◌+◌, List, length, replicate, 
 use Rattle.std.specs.Prelude.{All, IfSome}
 use Rattle.std.specs.String.{string_bytes}
 use Rattle.std.proofs.lemmas.List.Elements.{All-nil}
-use Rattle.vx_base.specs.declared.call.Call.{Call}
 use Rattle.vx_base.specs.declared.event.Event.{Event}
-use Rattle.vx_log.specs.Logs.{LogView, fresh_log}
+use Rattle.vx_log.specs.Logs.{LogView}
 use Rattle.vx_log.specs.Moments.{Told, Always}
 use Rattle.vx_model.specs.Allowed.{come_by, IsAllowed}
 use Rattle.vx_model.specs.AllowedLaws.{IsPlaced}
@@ -12,7 +11,7 @@ use Rattle.vx_model.specs.LaidOut.{IsLaidOut}
 use Rattle.vx_model.specs.Legal.{after_all}
 use Rattle.vx_model.specs.State.{State, fresh}
 use Rattle.vx_run.specs.Cores.{beginning, IsEnded, is_unmounted, TellsFaults}
-use Rattle.vx_run.specs.Ends.{Setting, Asks}
+use Rattle.vx_run.specs.Ends.{Setting}
 use Rattle.vx_run.specs.Journals.{IsKept, IsLeft}
 use Rattle.vx_run.specs.Metadata.{state_of}
 use Rattle.vx_run.specs.States.{new_log_blocks}

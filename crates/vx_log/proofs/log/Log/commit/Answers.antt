@@ -1,10 +1,9 @@
-use Rattle.std.proofs.Common.{◌≡◌, ◌+◌, ◌≤◌, ◌<◌, ℕ, List, length, sym, ◌∙◌, ap, subst, inl, arith}
+use Rattle.std.proofs.Common.{◌<◌, ℕ, List, length, subst, inl, arith}
 use Rattle.vx_dev.specs.declared.device.Operation.TheVariants.{Put}
 use Rattle.vx_dev.specs.Tape.{Did, Failed}
-use Rattle.vx_layout.specs.LogForms.{LogState, head_of, head_sector, records_of, body_of, log_length}
+use Rattle.vx_layout.specs.LogForms.{head_of, records_of, body_of}
 use Rattle.vx_log.specs.Crashes.{grown}
-use Rattle.vx_log.specs.Logs.{LogView}
-use Rattle.vx_log.specs.Stages.{IsBodyPut, IsToPut}
+use Rattle.vx_log.specs.Stages.{IsBodyPut}
 use Rattle.vx_log.proofs.CommitRuns.{to_put, gate_is, body_settled, ready_passed, ready_failed, gate_done, gate_passed, gate_failed, turned_to, turned_passed, turned_failed, Reads, ReadsOne, on_ok, on_either}
 use Rattle.vx_log.proofs.Passing.{passed_join, passed_weaker}
 use Rattle.vx_log.proofs.log.Log.commit.Goals as goal

@@ -1,7 +1,7 @@
-use Rattle.std.proofs.Common.{◌≡◌, ◌+◌, ℕ, List, sym, ◌∙◌, ap, subst}
+use Rattle.std.proofs.Common.{ℕ, List, subst}
 use Rattle.vx_dev.specs.declared.device.Operation.TheVariants.{Put}
 use Rattle.vx_dev.specs.Tape.{Did, Failed}
-use Rattle.vx_layout.specs.LogForms.{LogState, head_of, head_sector}
+use Rattle.vx_layout.specs.LogForms.{head_of}
 use Rattle.vx_log.specs.Crashes.{emptied}
 use Rattle.vx_log.specs.Stages.{AreHomesPut}
 use Rattle.vx_log.proofs.CommitRuns.{tail_is, homes_settled, ready_passed, ready_failed, gate_done, gate_passed, gate_failed, turned_to, turned_passed, turned_failed, ReadsOne, on_ok, on_either}

@@ -1,6 +1,5 @@
-use Rattle.std.proofs.Common.{◌≡◌, ◌+◌, ◌++◌, ◌∷◌, [], ℕ, List, length, ap, ◌∙◌, sym, arith, rules, length-append, append_assoc}
+use Rattle.std.proofs.Common.{◌≡◌, ◌+◌, ◌++◌, ◌∷◌, [], List, length, ap, ◌∙◌, sym, arith, rules, length-append, append_assoc}
 use Rattle.vx_base.specs.declared.call.Call.{Call}
-use Rattle.vx_base.specs.declared.event.Event.{Event}
 use Rattle.std.specs.Vec.Iter.{into_iter_items}
 use Rattle.vx_run.proofs.Histories.{lines_answered, length_answered, onward_on}
 use Rattle.vx_run.proofs.engine.Core.answer_all.Goals as goal

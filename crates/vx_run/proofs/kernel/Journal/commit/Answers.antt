@@ -1,5 +1,4 @@
-use Rattle.std.proofs.Common.{◌≡◌, ◌⊎◌, ◌∙◌, ℕ, List, length, ap, subst, sym, inl, inr, refl}
-use Rattle.vx_dev.specs.Tape.{State as Device}
+use Rattle.std.proofs.Common.{◌≡◌, ◌⊎◌, ◌∙◌, ap, subst, sym, inl}
 use Rattle.vx_log.specs.Logs.{LogView}
 use Rattle.vx_log.specs.Moments.{Told}
 use Rattle.vx_log.proofs.Passing.{passed_join, passed_weaker}

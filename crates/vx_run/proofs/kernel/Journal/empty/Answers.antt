@@ -1,4 +1,3 @@
-use Rattle.std.proofs.Common.{◌≡◌, ◌∙◌, List, replicate, Option, None, sym, subst}
 use Rattle.vx_log.specs.Crashes.{Stands, emptied}
 use Rattle.vx_log.specs.Moments.{Told}
 use Rattle.vx_log.specs.Readings.{IsReading}

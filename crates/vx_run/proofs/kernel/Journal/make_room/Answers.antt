@@ -1,4 +1,4 @@
-use Rattle.std.proofs.Common.{◌≡◌, arith}
+use Rattle.std.proofs.Common.{arith}
 use Rattle.vx_run.proofs.KeptLaws.{still_passed}
 use Rattle.vx_run.proofs.kernel.Journal.make_room.Goals as goal
 

@@ -1,9 +1,9 @@
-use Rattle.std.proofs.Common.{◌≡◌, ◌∙◌, ap, sym, subst, [], List, ℕ, ◌<◌, length, arith}
+use Rattle.std.proofs.Common.{◌∙◌, ap, sym, subst, [], List, ℕ, ◌<◌, length, arith}
 use Rattle.std.specs.Prelude.{All}
 use Rattle.std.proofs.lemmas.List.Elements.{All-push}
 use Rattle.vx_base.specs.declared.inode.DirEntry.{DirEntry}
 use Rattle.std.specs.FinMap as map
-use Rattle.vx_model.specs.Tree.{Nodes, new_file, no_attrs}
+use Rattle.vx_model.specs.Tree.{Nodes, no_attrs}
 use Rattle.vx_model.specs.Making.{with_name}
 use Rattle.vx_run.specs.States.{OnlyRoot}
 use Rattle.vx_run.proofs.Roots.{only_root_added}

@@ -1,4 +1,4 @@
-use Rattle.std.proofs.Common.{◌≡◌, ◌∙◌, ap, sym}
+use Rattle.std.proofs.Common.{ap, sym}
 use Rattle.vx_model.specs.Outcome.{Maybe}
 use Rattle.vx_model.specs.State.{Done, settled}
 use Rattle.vx_model.specs.Tree.{new_file}

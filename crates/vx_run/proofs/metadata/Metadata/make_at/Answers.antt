@@ -1,4 +1,4 @@
-use Rattle.std.proofs.Common.{◌≡◌, ◌∙◌, ℕ, ap, sym, rules, arith, Some, None}
+use Rattle.std.proofs.Common.{◌≡◌, ◌∙◌, ap, sym, rules, arith, Some, None}
 use Rattle.std.specs.FinMap as map
 use Rattle.vx_model.specs.Tree.{Directory, IsDirectory, new_file}
 use Rattle.vx_model.specs.State.{Done}

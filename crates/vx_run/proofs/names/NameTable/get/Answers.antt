@@ -1,8 +1,7 @@
-use Rattle.std.proofs.Common.{◌≡◌, sym, ◌∙◌, ap, rules}
+use Rattle.std.proofs.Common.{sym, ◌∙◌, ap}
 use Rattle.std.specs.FinMap as map
-use Rattle.std.specs.FinMap.{slice_cmp-IsAntisymmetric, nat_cmp-IsAntisymmetric}
 use Rattle.std.specs.Cmp.Lexicographic.{nat_list_cmp_total}
-use Rattle.vx_run.proofs.Views.{view_get, view_insert, view_keys, view_len}
+use Rattle.vx_run.proofs.Views.{view_get}
 use Rattle.vx_run.proofs.names.NameTable.get.Goals as goal
 
 pub returns : goal.returns

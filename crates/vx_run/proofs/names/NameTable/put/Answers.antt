@@ -1,8 +1,8 @@
-use Rattle.std.proofs.Common.{◌≡◌, sym, ◌∙◌, ap, rules}
+use Rattle.std.proofs.Common.{◌∙◌, ap}
 use Rattle.std.specs.FinMap as map
 use Rattle.std.specs.FinMap.{slice_cmp-IsAntisymmetric, nat_cmp-IsAntisymmetric}
 use Rattle.std.specs.Cmp.Lexicographic.{nat_list_cmp_total}
-use Rattle.vx_run.proofs.Views.{view_get, view_insert, view_keys, view_len}
+use Rattle.vx_run.proofs.Views.{view_insert}
 use Rattle.vx_run.proofs.names.NameTable.put.Goals as goal
 
 pub returns-clause-ok : goal.returns-clause-ok

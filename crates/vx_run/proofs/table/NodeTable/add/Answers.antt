@@ -1,4 +1,4 @@
-use Rattle.std.proofs.Common.{◌≡◌, ◌∙◌, ap, arith, OnOk, sym, rules}
+use Rattle.std.proofs.Common.{◌≡◌, ◌∙◌, ap, OnOk}
 use Rattle.std.specs.FinMap as map
 use Rattle.std.proofs.lemmas.Result.{on_ok_weaker}
 use Rattle.std.proofs.lemmas.List.{with_items_is}
