@@ -3,3 +3,4 @@ pub mod Standing
 pub mod Lists
 pub mod Numbers
 pub mod Supers
+pub mod LogSpelling

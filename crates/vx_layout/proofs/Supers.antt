@@ -1,5 +1,5 @@
 -- What is read as a superblock is spelled so, and what is spelled so is read.
-use Rattle.std.proofs.Common.{◌≡◌, ℕ, Bool, true, false, cond, zero, suc, List, ◌∷◌, ◌++◌, length, take, drop, get_or, replicate, Result, Ok, Err, refl, sym, subst, ◌∙◌, arith, length-drop}
+use Rattle.std.proofs.Common.{◌≡◌, ℕ, Bool, true, false, cond, zero, suc, List, ◌∷◌, ◌++◌, length, take, drop, get_or, replicate, Result, Ok, Err, refl, sym, ap, subst, ◌∙◌, arith, length-drop}
 use Rattle.std.specs.Prelude.{◌==◌, nat_le, IfOk}
 use Rattle.std.specs.Int.{w32}
 use Rattle.std.proofs.lemmas.Nat.{from_le_bytes-to_le_bytes_4}
@@ -95,3 +95,6 @@ super_found s v len fits h =
 pub is_found : (s : List ℕ) (r : Result Super BadSuper) → length s ≡ 512 → IsBytes s → r ≡ super_at s → IfOk r (λ v. IsSuper v × (s ≡ super_bytes v))
 is_found s (Ok v) len fits e = super_found s v len fits (sym e)
 is_found s (Err b) len fits e = tt
+
+pub super_unique : (v w : Super) → IsSuper v → IsSuper w → super_bytes v ≡ super_bytes w → v ≡ w
+super_unique v w fv fw e = ok_is v w (sym (super_again v fv) ∙ ap super_at e ∙ super_again w fw)

@@ -1,7 +1,7 @@
 -- How the intent log is spelled, and what an image with a log reads as.
-use Rattle.std.specs.Prelude.{◌≡◌, ◌==◌, ◌<◌, ◌≤◌, ◌+◌, ◌-◌, ◌*◌, ◌%◌, ◌/◌, ℕ, zero, suc, Bool, IsTrue, List, [], ◌∷◌, ◌++◌, length, map, take, drop, get_or, replicate, if◌then◌else◌}
+use Rattle.std.specs.Prelude.{◌≡◌, ◌==◌, ◌<◌, ◌≤◌, ◌+◌, ◌-◌, ◌*◌, ◌%◌, ◌/◌, ◌^◌, ℕ, zero, suc, Bool, IsTrue, List, [], ◌∷◌, ◌++◌, length, map, take, drop, get_or, replicate, if◌then◌else◌}
 use Rattle.std.specs.Int.{w32, w64, to_le_bytes}
-use Rattle.std.specs.List.{flat_map}
+use Rattle.std.specs.List.{flat_map, AllByRecursion}
 
 -- a sector's number and the bytes that it is to hold
 abbrev pub AfterImage : Type 0
@@ -31,6 +31,11 @@ descriptor position homes =
 -- a record as it stands in the log
 abbrev pub record_sectors : ℕ → List AfterImage → List (List ℕ)
 record_sectors position record_ = descriptor position (map (λ e. e.0) record_) ∷ map (λ e. e.1) record_
+
+-- what a descriptor can name
+pub record IsRecord (record_ : List AfterImage) : Type 0 where
+  pub few : length record_ ≤ 124
+  pub homes : AllByRecursion (λ s. s < 2 ^ 32) (map (λ e. e.0) record_)
 
 abbrev pub log_sectors : ℕ → List (List AfterImage) → List (List ℕ)
 log_sectors position [] = []

@@ -3,9 +3,11 @@
 
 pub mod fields;
 mod sheet;
+mod spelling;
 mod superblock;
 mod volume;
 
 pub use sheet::Sheet;
+pub use spelling::{log_spelling, super_spelling};
 pub use superblock::{BadSuper, Super, sectors_needed};
 pub use volume::{block_sector, places, super_places};

@@ -13,3 +13,4 @@ pub mod Passing
 pub mod Overlays
 pub mod StageRuns
 pub mod CommitRuns
+pub mod RecordForms

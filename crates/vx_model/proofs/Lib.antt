@@ -9,3 +9,4 @@ pub mod Entries
 pub mod Batches
 pub mod Determined
 pub mod Allowing
+pub mod Replaying

@@ -1,8 +1,9 @@
 -- An image replays as a tree.
-use Rattle.std.specs.Prelude.{◌≡◌, ℕ, ◌+◌, ◌*◌, ◌<◌, ◌≤◌, true, List, [], length, get_or}
+use Rattle.std.specs.Prelude.{◌≡◌, ℕ, ◌+◌, ◌*◌, ◌<◌, ◌≤◌, ◌^◌, true, List, [], length, get_or}
+use Rattle.std.specs.List.{AllByRecursion}
 use Rattle.vx_layout.specs.declared.superblock.Super.{Super}
 use Rattle.vx_layout.specs.Supers.{IsSuper, super_bytes, volume_of}
-use Rattle.vx_layout.specs.LogForms.{AfterImage, head_sector, log_at, log_sectors, overlay_all}
+use Rattle.vx_layout.specs.LogForms.{AfterImage, IsRecord, head_sector, log_at, log_sectors, overlay_all}
 use Rattle.vx_model.specs.Tree.{Tree}
 use Rattle.vx_model.specs.Reads.{ImageReadsAs}
 
@@ -11,6 +12,8 @@ pub record HasRecords (n : ℕ) (image : ℕ → List ℕ) (records : List (List
   pub serial : ℕ
   pub tail : ℕ
   pub head : ℕ
+  pub limit : head < 2 ^ 64
+  pub form : AllByRecursion IsRecord records
   pub head_is : image 2 ≡ head_sector serial tail head
   pub ends : head ≡ tail + length (log_sectors tail records)
   pub fits : head ≤ tail + n

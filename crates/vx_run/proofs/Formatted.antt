@@ -187,6 +187,8 @@ module _ (t : Tape) (new : IsNewImage t) where
       };
       superblock = refl;
       superblock_is = refl;
+      limit = omega arith;
+      form = tt;
     }
 
     kept : IsKept (fresh_log 1024) (replicate 68 None) (fresh new_log_blocks 1) t

@@ -1,5 +1,5 @@
 -- What a journal keeps from one step to the next: what a crash leaves replays as the state's tree.
-use Rattle.std.proofs.Common.{◌≡◌, ◌≢◌, ◌⊎◌, ℕ, zero, suc, ◌+◌, ◌-◌, ◌<◌, ◌≤◌, Bool, true, false, cond, List, [], ◌∷◌, ◌++◌, length, set, get_or, replicate, Option, Some, None, refl, sym, ap, subst, ◌∙◌, arith, inl, inr, lit≤, length-set}
+use Rattle.std.proofs.Common.{◌≡◌, ◌≢◌, ◌⊎◌, ℕ, zero, suc, ◌+◌, ◌-◌, ◌<◌, ◌≤◌, ◌^◌, ◌^◌, Bool, true, false, cond, List, [], ◌∷◌, ◌++◌, length, set, get_or, replicate, Option, Some, None, refl, sym, ap, subst, ◌∙◌, arith, inl, inr, lit≤, length-set}
 use Rattle.std.specs.Prelude.{Result, Ok, Err, OnOk, OnErr, ◌||◌, ◌&&◌, ◌==◌, not, nat_lt, is_some, IfSome, IsTrue, All, Contains, option_map}
 use Rattle.std.specs.List.{AllByRecursion}
 use Rattle.std.specs.FinMap as map
@@ -11,7 +11,7 @@ use Rattle.vx_dev.specs.declared.device.DevFault.{DevFault}
 use Rattle.vx_dev.specs.declared.device.Operation.{Operation}
 use Rattle.vx_dev.specs.declared.device.Operation.TheVariants.{Put, Barrier}
 use Rattle.vx_dev.specs.Tape.{Tape, State as Device, Did, DidNothing, Failed, did, tried, Writes, MayHold, now, Settles, IsImage}
-use Rattle.vx_layout.specs.LogForms.{AfterImage, LogState, ReadsAs, log_length, records_of, overlay, overlay_all, head_sector, log_sectors}
+use Rattle.vx_layout.specs.LogForms.{AfterImage, IsRecord, LogState, ReadsAs, log_length, records_of, overlay, overlay_all, head_sector, log_sectors}
 use Rattle.vx_layout.specs.Supers.{super_bytes}
 use Rattle.vx_log.specs.Batches.{sectors_of}
 use Rattle.vx_log.specs.Crashes.{IsApart, Stands, grown, emptied, IsPutHome}
@@ -135,6 +135,14 @@ overlay_all-append : (rs qs : List (List AfterImage)) (s : ℕ) (x : List ℕ) �
 overlay_all-append [] qs s x = refl
 overlay_all-append (r ∷ rs) qs s x = overlay_all-append rs qs s (overlay r s x)
 
+both_forms : (rs qs : List (List AfterImage)) → AllByRecursion IsRecord rs → AllByRecursion IsRecord qs → AllByRecursion IsRecord (rs ++ qs)
+both_forms [] qs h k = k
+both_forms (r ∷ rs) qs h k = (h.0, both_forms rs qs h.1 k)
+
+low_sectors : (batch : List AfterImage) → AllByRecursion IsInside batch → AllByRecursion (λ s. s < 2 ^ 32) (sectors_of batch)
+low_sectors [] h = tt
+low_sectors (e ∷ batch) h = (let high : e.0 < 1096 = h.0.1 in omega (arith, high), low_sectors batch h.1)
+
 -- a batch leads from the one state to the other
 pub record IsStep (old new : State) (batch : List AfterImage) : Type 0 where
   pub old_mounted : IsMounted old
@@ -237,8 +245,8 @@ nothing_noted q false = no_image 68 (q - 1028)
 module _ (laws : JournalLaws) where
   -- ---- images
 
-  pub replays : (s : State) (clean : Bool) (r : LogState) (image : ℕ → List ℕ) → IsMounted s → Says unit_volume (parsed_of s) r → image 0 ≡ super_bytes (superblock_of clean) → ReadsAs 1024 r image → ReplaysAs image s.tree
-  replays s clean r image m says super reads =
+  pub replays : (s : State) (clean : Bool) (r : LogState) (image : ℕ → List ℕ) → r.head ≤ 2 ^ 62 → AllByRecursion IsRecord r.records → IsMounted s → Says unit_volume (parsed_of s) r → image 0 ≡ super_bytes (superblock_of clean) → ReadsAs 1024 r image → ReplaysAs image s.tree
+  replays s clean r image limit form m says super reads =
       let over : ℕ → List ℕ = λ q. overlay_all r.records q (image q) in
       let stands = laws.says_stands (parsed_of s) r image says reads in
       record {
@@ -246,13 +254,13 @@ module _ (laws : JournalLaws) where
         is_super = record { log_low = lit≤ tt; log_high = lit≤ tt; units_low = lit≤ tt; units_high = lit≤ tt };
         superblock_is = super;
         records = r.records;
-        log = record { serial = r.serial; tail = r.tail; head = r.head; head_is = reads.head_is; ends = reads.ends; fits = reads.fits; whole = reads.whole };
+        log = record { serial = r.serial; tail = r.tail; head = r.head; limit = omega (arith, limit); form = form; head_is = reads.head_is; ends = reads.ends; fits = reads.fits; whole = reads.whole };
         reads = subst (λ v. ImageReadsAs v over s.tree) (mounted_volume s m) (laws.reads s over m.laid_out (subst (λ v. images.Stands v (parsed_of s) over) (sym (mounted_volume s m)) stands));
       }
 
   kept_replays : (s : State) (r : LogState) → IsMounted s → IsReadingOf s r → ((x : List ℕ) → overlay_all r.records 0 x ≡ x) → (image : ℕ → List ℕ) → ReadsAs 1024 r image → ReplaysAs image s.tree
   kept_replays s r m k zero_ image reads =
-      replays s false r image m (says_of s r m k) (sym (zero_ (image 0)) ∙ reads.metadata 0 k.superblock ∙ k.superblock_is) reads
+      replays s false r image k.limit k.form m (says_of s r m k) (sym (zero_ (image 0)) ∙ reads.metadata 0 k.superblock ∙ k.superblock_is) reads
 
   -- ---- a batch joins the log
 
@@ -285,13 +293,15 @@ module _ (laws : JournalLaws) where
     contents_is : (q : ℕ) → next.contents q ≡ overlay batch q (r.contents q)
     contents_is q = laws.records batch q (r.contents q)
 
-    next_reading : IsReadingOf new next
-    next_reading =
+    next_reading : r.head + log_length (length batch) ≤ 2 ^ 62 → IsReadingOf new next
+    next_reading limit =
         let says = laws.says_next (parsed_of old) (parsed_of new) step.changes batch r next (says_of old r step.old_mounted k) step.same_but step.is_batch (λ q there. or_right (r.is_metadata q) (is_metadata unit_volume (parsed_of new) q) there) contents_is in
         record {
           says = subst (λ v. Says v (parsed_of new) next) (sym (mounted_volume new step.new_mounted)) says;
           superblock = or_left (r.is_metadata 0) (is_metadata unit_volume (parsed_of new) 0) k.superblock;
           superblock_is = contents_is 0 ∙ laws.lacks batch 0 (r.contents 0) (λ has. absurd (omega (arith, sector_inside batch 0 step.inside has))) ∙ k.superblock_is;
+          limit = omega (arith, limit, laws.length r.head batch);
+          form = both_forms r.records (records_of batch) k.form (laws.form batch (low_sectors batch step.inside));
         }
 
     -- what was noted of a sector that the batch lacks
@@ -318,7 +328,7 @@ module _ (laws : JournalLaws) where
 
   -- ---- a commit
 
-  module _ (old new : State) (batch : List AfterImage) (step : IsStep old new batch) (log : LogView) (sectors : log.sectors ≡ 1024) (homes : List (Option (List ℕ))) (count : length homes ≡ 68) (a b : Device)
+  module _ (old new : State) (batch : List AfterImage) (step : IsStep old new batch) (log : LogView) (sectors : log.sectors ≡ 1024) (homes : List (Option (List ℕ))) (count : length homes ≡ 68) (limit : log.head + log_length (length batch) ≤ 2 ^ 62) (a b : Device)
       (passed : (r : LogState) (is_metadata : ℕ → Bool) → Commits log r batch is_metadata → Told a (Stands log.sectors r)
       → Passed (λ image. ReadsAs log.sectors r image ⊎ ReadsAs log.sectors (grown r (records_of batch) is_metadata) image) a b) where
     abbrev One : (ℕ → List ℕ) → Type 0
@@ -349,7 +359,7 @@ module _ (laws : JournalLaws) where
           passed_weaker (λ image. ReadsAs log.sectors r image ⊎ ReadsAs log.sectors r2 image) One a b
           (λ image reads. elim reads [
             | inl before ↦ inl (kept_replays old r step.old_mounted k.is_reading (k.noted 0) image (subst (λ (n : ℕ). ReadsAs n r image) sectors before))
-            | inr after ↦ inr (kept_replays new r2 step.new_mounted (next_reading old new batch step r k.is_reading) zero2 image (subst (λ (n : ℕ). ReadsAs n r2 image) sectors after))
+            | inr after ↦ inr (kept_replays new r2 step.new_mounted (next_reading old new batch step r k.is_reading (omega (arith, limit, k.head))) zero2 image (subst (λ (n : ℕ). ReadsAs n r2 image) sectors after))
           ])
           (passed r (next_metadata old new batch step r k.is_reading) (commits_at t k) (stands_at t k is))
     ]
@@ -368,7 +378,7 @@ module _ (laws : JournalLaws) where
             serial = ap next_serial k.serial ∙ sym serial_is;
             tail = k.tail ∙ sym tail_is;
             head = (let grown_head : r2.head ≡ log.head + log_length (length batch) = omega (arith, k.head, laws.length r.head batch) in grown_head) ∙ sym head_is;
-            is_reading = next_reading old new batch step r k.is_reading;
+            is_reading = next_reading old new batch step r k.is_reading (omega (arith, limit, k.head));
             stands = subst (λ (n : ℕ). Stands n r2 u) sectors s;
             noted = next_noted old new batch step r k.is_reading homes count k.noted;
           })
@@ -437,7 +447,7 @@ module _ (laws : JournalLaws) where
       dummy_emptied none = passed (dummy log) (dummy_reading log) (nothing_told mid (AreHomesPut log.sectors (dummy log)) (mid_untold none))
 
       emptied_reading : (t : Tape) (k : Rests t) → IsReadingOf s (emptied k.reading)
-      emptied_reading t k = record { says = record { sectors = k.is_reading.says.sectors; bytes = k.is_reading.says.bytes }; superblock = k.is_reading.superblock; superblock_is = k.is_reading.superblock_is }
+      emptied_reading t k = record { says = record { sectors = k.is_reading.says.sectors; bytes = k.is_reading.says.bytes }; superblock = k.is_reading.superblock; superblock_is = k.is_reading.superblock_is; limit = k.is_reading.limit; form = tt }
 
       pub empty_passed : Told a Rests → Passed Now a b
       empty_passed h = elim (told_cases a Rests h) [
@@ -497,6 +507,8 @@ module _ (laws : JournalLaws) where
     pub records : reading.records ≡ []
     pub tail : reading.tail ≡ reading.head
     pub not_super : reading.is_metadata 0 ≡ false
+    pub limit : reading.head ≤ 2 ^ 62
+    pub form : AllByRecursion IsRecord reading.records
     pub stands : Stands 1024 reading t
     pub superblock : (x : List ℕ) → MayHold t 0 x → (x ≡ super_bytes (superblock_of false)) ⊎ (x ≡ super_bytes (superblock_of true))
 
@@ -520,6 +532,8 @@ module _ (laws : JournalLaws) where
           records = no_records r.tail r.records ends;
           tail = omega (arith, k.tail, k.head, level);
           not_super = and_false (r.is_metadata 0);
+          limit = k.is_reading.limit;
+          form = k.is_reading.form;
           stands = laws.fewer r less t (λ q there. and_left (r.is_metadata q) (not (q == 0)) there) k.stands;
           superblock = λ x may. inl (sym (k.noted 0 x) ∙ k.stands.holds.metadata 0 x k.is_reading.superblock may ∙ k.is_reading.superblock_is);
         }
@@ -531,6 +545,8 @@ module _ (laws : JournalLaws) where
       records = k.records;
       tail = k.tail;
       not_super = k.not_super;
+      limit = k.limit;
+      form = k.form;
       stands = laws.written k.reading t op 0 (super_bytes (superblock_of true)) w (record { no_record = λ i lt same. absurd (omega (arith, same)); decided = λ there. absurd (let wrong : true ≡ false = sym there ∙ k.not_super in cc) }) (λ same. omega (arith, same)) k.stands;
       superblock = λ x may. elim (w.may t 0 x may) [ inl before ↦ k.superblock x before | inr here ↦ inr here.1 ];
     }
@@ -542,6 +558,8 @@ module _ (laws : JournalLaws) where
       records = k.records;
       tail = k.tail;
       not_super = k.not_super;
+      limit = k.limit;
+      form = k.form;
       stands = laws.barrier k.reading t k.stands;
       superblock = λ x may. k.superblock x (laws.tape.barrier_adds t 0 x may);
     }
@@ -550,8 +568,8 @@ module _ (laws : JournalLaws) where
     closing_shows t k image is =
         let reads = laws.image_reads k.reading t image k.stands is in
         elim (k.superblock (image 0) (is 0)) [
-          | inl mounted ↦ replays s false k.reading image m k.says mounted reads
-          | inr clean ↦ replays s true k.reading image m k.says clean reads
+          | inl mounted ↦ replays s false k.reading image k.limit k.form m k.says mounted reads
+          | inr clean ↦ replays s true k.reading image k.limit k.form m k.says clean reads
         ]
 
     -- the superblock of a clean file system settles

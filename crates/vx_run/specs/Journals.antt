@@ -1,7 +1,8 @@
 -- A journal between two transactions, and what it knows of its device.
-use Rattle.std.specs.Prelude.{◌≡◌, ◌-◌, ◌≤◌, ℕ, Bool, false, IsTrue, nat_lt, List, [], get_or, Option, Some, None, if◌then◌else◌}
+use Rattle.std.specs.List.{AllByRecursion}
+use Rattle.std.specs.Prelude.{◌^◌, ◌≡◌, ◌-◌, ◌≤◌, ℕ, Bool, false, IsTrue, nat_lt, List, [], get_or, Option, Some, None, if◌then◌else◌}
 use Rattle.vx_dev.specs.Tape.{Tape, MayHold, now}
-use Rattle.vx_layout.specs.LogForms.{LogState, overlay_all}
+use Rattle.vx_layout.specs.LogForms.{IsRecord, LogState, overlay_all}
 use Rattle.vx_layout.specs.Supers.{super_bytes}
 use Rattle.vx_layout.specs.declared.superblock.Super.{Super}
 use Rattle.vx_log.specs.Crashes.{Stands, IsDecided}
@@ -54,6 +55,8 @@ pub record IsReadingOf (s : State) (r : LogState) : Type 0 where
   pub says : Says (volume s.layout) (parsed_of s) r
   pub superblock : IsTrue (r.is_metadata 0)
   pub superblock_is : r.contents 0 ≡ super_bytes (superblock_of false)
+  pub limit : r.head ≤ 2 ^ 62
+  pub form : AllByRecursion IsRecord r.records
 
 -- the image that is noted for sector s
 abbrev pub noted_at : List (Option (List ℕ)) → ℕ → Option (List ℕ)

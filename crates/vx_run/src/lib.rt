@@ -19,6 +19,7 @@ mod top;
 mod words;
 
 pub use gate::{Gate, OpenGate};
+pub use laws::replays_once;
 pub use top::{Ran, run};
 
 #[cfg(test)]

@@ -14,6 +14,7 @@ returns c = record {
   lacks = c.batch_laws.ensures.lacks;
   decides = c.batch_laws.ensures.decides;
   length = c.batch_laws.ensures.length;
+  form = c.batch_laws.ensures.form;
   image_reads = λ r t image stands is. c.image_laws.ensures.stands 1024 r t image stands is;
   written = λ r t op u bytes writes free other stands. c.image_laws.ensures.written 1024 r t op u bytes writes free other stands;
   barrier = λ r t stands. c.image_laws.ensures.barrier 1024 r t stands;

@@ -1,4 +1,5 @@
-use Rattle.std.proofs.Common.{◌≡◌, ◌⊎◌, ◌∙◌, ap, subst, sym, inl}
+use Rattle.vx_layout.specs.LogForms.{log_length}
+use Rattle.std.proofs.Common.{length, ◌+◌, ◌≤◌, ◌^◌, arith, ◌≡◌, ◌⊎◌, ◌∙◌, ap, subst, sym, inl}
 use Rattle.vx_log.specs.Logs.{LogView}
 use Rattle.vx_log.specs.Moments.{Told}
 use Rattle.vx_log.proofs.Passing.{passed_join, passed_weaker}
@@ -23,10 +24,11 @@ returns-in_err-commit-clause-passed g c = λ s m told.
     let a = g.D.BlockDev.state c.args.dev.now in
     let mid = g.D.BlockDev.state c.make_room.new.dev in
     let b = g.D.BlockDev.state c.commit.new.dev in
+    let limit : log.head + log_length (length c.stage.new.batch) ≤ 2 ^ 62 = omega (arith, c.requires.limit, c.make_room.ensures.head, c.stage.ensures.transaction.few) in
     let step = made_step c.make_changes.ensures.changes s new c.args.made c.stage.new.batch m c.stage.ensures.batch c.stage.ensures.transaction.inside in
     let first = passed_weaker (λ image. ReplaysAs image s.tree) (λ image. ReplaysAs image s.tree ⊎ ReplaysAs image new.tree) a mid (λ image old. inl old) (c.make_room.ensures.passed s m.mounted told) in
     passed_join (λ image. ReplaysAs image s.tree ⊎ ReplaysAs image new.tree) a mid b first
-    (commit_passed laws s new c.stage.new.batch step log c.in_ok-make_room.ensures.idle.sectors homes c.len-places.ensures.count mid b c.commit.ensures.passed (c.in_ok-make_room.ensures.kept s m.mounted told))
+    (commit_passed laws s new c.stage.new.batch step log c.in_ok-make_room.ensures.idle.sectors homes c.len-places.ensures.count limit mid b c.commit.ensures.passed (c.in_ok-make_room.ensures.kept s m.mounted told))
 
 pub returns-clause-passed : goal.returns-clause-passed
 returns-clause-passed g c = λ s m told.
@@ -37,10 +39,11 @@ returns-clause-passed g c = λ s m told.
     let a = g.D.BlockDev.state c.args.dev.now in
     let mid = g.D.BlockDev.state c.make_room.new.dev in
     let b = g.D.BlockDev.state c.commit.new.dev in
+    let limit : log.head + log_length (length c.stage.new.batch) ≤ 2 ^ 62 = omega (arith, c.requires.limit, c.make_room.ensures.head, c.stage.ensures.transaction.few) in
     let step = made_step c.make_changes.ensures.changes s new c.args.made c.stage.new.batch m c.stage.ensures.batch c.stage.ensures.transaction.inside in
     let first = passed_weaker (λ image. ReplaysAs image s.tree) (λ image. ReplaysAs image s.tree ⊎ ReplaysAs image new.tree) a mid (λ image old. inl old) (c.make_room.ensures.passed s m.mounted told) in
     passed_join (λ image. ReplaysAs image s.tree ⊎ ReplaysAs image new.tree) a mid b first
-    (commit_passed laws s new c.stage.new.batch step log c.in_ok-make_room.ensures.idle.sectors homes c.len-places.ensures.count mid b c.commit.ensures.passed (c.in_ok-make_room.ensures.kept s m.mounted told))
+    (commit_passed laws s new c.stage.new.batch step log c.in_ok-make_room.ensures.idle.sectors homes c.len-places.ensures.count limit mid b c.commit.ensures.passed (c.in_ok-make_room.ensures.kept s m.mounted told))
 
 pub returns-clause-kept : goal.returns-clause-kept
 returns-clause-kept g c = λ s m told.
@@ -51,13 +54,14 @@ returns-clause-kept g c = λ s m told.
     let a = g.D.BlockDev.state c.args.dev.now in
     let mid = g.D.BlockDev.state c.make_room.new.dev in
     let b = g.D.BlockDev.state c.commit.new.dev in
+    let limit : log.head + log_length (length c.stage.new.batch) ≤ 2 ^ 62 = omega (arith, c.requires.limit, c.make_room.ensures.head, c.stage.ensures.transaction.few) in
     let step = made_step c.make_changes.ensures.changes s new c.args.made c.stage.new.batch m c.stage.ensures.batch c.stage.ensures.transaction.inside in
     let last = c.take_back.new.self in
     let homes_is : c.note_all.new.homes ≡ with_notes homes c.stage.new.batch = c.note_all.ensures ∙ ap (with_notes homes) c.entries.ensures in
     let log_is = c.take_back.ensures.left in
     let opened_is = c.in_ok-commit.ensures.opened in
     subst (λ h. Told b (IsKept last h new)) (sym homes_is)
-    (commit_kept laws s new c.stage.new.batch step log c.in_ok-make_room.ensures.idle.sectors homes c.len-places.ensures.count mid b c.commit.ensures.passed last
+    (commit_kept laws s new c.stage.new.batch step log c.in_ok-make_room.ensures.idle.sectors homes c.len-places.ensures.count limit mid b c.commit.ensures.passed last
     (ap (λ (l : LogView). l.serial) log_is ∙ ap (λ (l : LogView). l.serial) opened_is)
     (ap (λ (l : LogView). l.tail) log_is ∙ ap (λ (l : LogView). l.tail) opened_is)
     (ap (λ (l : LogView). l.head) log_is ∙ ap (λ (l : LogView). l.head) opened_is)
