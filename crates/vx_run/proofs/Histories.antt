@@ -1,7 +1,7 @@
 -- A call and its answer, behind a legal history.
-use Rattle.std.proofs.Common.{◌≡◌, ◌⊎◌, ℕ, ◌+◌, ◌≤◌, Bool, true, false, not, List, [], ◌∷◌, ◌++◌, length, map as mapped, Option, Some, None, refl, sym, ◌∙◌, ap, subst, inl, inr, arith, length-append, append-nil}
-use Rattle.std.proofs.lemmas.List.Elements.{filter_map-append, All-push}
-use Rattle.std.specs.Prelude.{◌&&◌, nat_eq, nat_lt, filter_map, All}
+use Rattle.std.proofs.Common.{◌≡◌, ◌⊎◌, ℕ, ◌+◌, ◌≤◌, Bool, true, false, not, List, [], ◌∷◌, ◌++◌, length, map as mapped, Option, Some, None, refl, sym, ◌∙◌, ap, subst, arith, length-append, append-nil}
+use Rattle.std.proofs.lemmas.List.Elements.{filter_map-append}
+use Rattle.std.specs.Prelude.{◌&&◌, nat_eq, nat_lt, filter_map}
 use Rattle.std.specs.List.{list_any}
 use Rattle.std.specs.Ordering.{nat_cmp}
 use Rattle.std.specs.FinMap as map
@@ -16,11 +16,7 @@ use Rattle.vx_model.specs.Legal.{World, Waiting, after, after_all, Legal, Allowe
 use Rattle.vx_model.proofs.Runs.{after_all-append, Legal-push}
 use Rattle.vx_dev.specs.Tape as dev
 use Rattle.vx_run.specs.Devices.{Onward}
-use Rattle.vx_run.specs.Cores.{IsRun, IsReply, IsEnded, is_unmounted, IsOfLines, asked_of, numbered, beginning, HasReason, IsReasoned, AnswersWithReason, StaysDisabled}
-use Rattle.vx_base.specs.declared.refusal.Refusal.{Refusal}
-use Rattle.vx_base.specs.declared.refusal.Refusal.TheVariants as no
-use Rattle.vx_base.specs.declared.reply.Reply.TheVariants as say
-use Rattle.vx_run.proofs.Ending.{none_is_not}
+use Rattle.vx_run.specs.Cores.{IsRun, IsReply, IsEnded, is_unmounted, IsOfLines, asked_of, numbered, beginning}
 
 abbrev Waits : Type 0
 Waits = map.FinMap nat_cmp Waiting
@@ -150,33 +146,3 @@ length_answered h new call line at later place reply answer are =
 
 pub onward_on : (a b d : dev.State) → Onward a b → Onward b d → Onward a d
 onward_on a b d x y = record { size = y.size ∙ x.size; later = omega (arith, x.later, y.later); reads = y.reads ∙ x.reads; faults = omega (arith, x.faults, y.faults) }
-
-reason_stays : (old new : Option ℕ) (why : Refusal) → StaysDisabled old new → HasReason old why → HasReason new why
-reason_stays old new why (inr same) h = subst (λ (d : Option ℕ). HasReason d why) (sym same) h
-reason_stays old new no.WriteFault (inl none) h = absurd (none_is_not old none h)
-reason_stays old new (no.Disabled faults) (inl none) h = absurd (let wrong : None ≡ Some faults = sym none ∙ h in cc)
-reason_stays old new no.ReadFault (inl none) h = h
-reason_stays old new _ (inl none) h = tt
-
-pub reply_stays : (old new : Option ℕ) (reply : Reply) → StaysDisabled old new → IsReasoned old reply → IsReasoned new reply
-reply_stays old new (say.Refused why) stays h = reason_stays old new why stays h
-reply_stays old new _ stays h = tt
-
-event_stays : (old new : Option ℕ) (e : Event) → StaysDisabled old new → AnswersWithReason old e → AnswersWithReason new e
-event_stays old new (event.Do at session line call reply) stays h = reply_stays old new reply stays h
-event_stays old new (event.Ret at place answer) stays h = reply_stays old new answer stays h
-event_stays old new _ stays h = tt
-
-pub reasons_stay : (old new : Option ℕ) (h : List Event) → StaysDisabled old new → All (AnswersWithReason old) h → All (AnswersWithReason new) h
-reasons_stay old new h stays all = λ k d lt. event_stays old new _ stays (all k d lt)
-
-pub reasons_answered : (old now : Option ℕ) (h new : List Event) (call : Call) (line at later place : ℕ) (reply answer : Reply) → StaysDisabled old now → IsReasoned old reply → IsReasoned now answer
-    → new ≡ (h ++ begun at line call reply ∷ []) ++ event.Ret later place answer ∷ [] → All (AnswersWithReason old) h → All (AnswersWithReason now) new
-reasons_answered old now h new call line at later place reply answer stays first second are all =
-    subst (λ (es : List Event). All (AnswersWithReason now) es) (sym are)
-    (All-push (AnswersWithReason now) (h ++ begun at line call reply ∷ []) (event.Ret later place answer)
-    (All-push (AnswersWithReason now) h (begun at line call reply) (reasons_stay old now h stays all) (reply_stays old now reply stays first)) second)
-
-pub reasons_unmounted : (old now : Option ℕ) (h new : List Event) (at : ℕ) → StaysDisabled old now → new ≡ h ++ event.Unmounted at ∷ [] → All (AnswersWithReason old) h → All (AnswersWithReason now) new
-reasons_unmounted old now h new at stays are all =
-    subst (λ (es : List Event). All (AnswersWithReason now) es) (sym are) (All-push (AnswersWithReason now) h (event.Unmounted at) (reasons_stay old now h stays all) tt)

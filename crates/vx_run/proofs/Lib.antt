@@ -8,6 +8,7 @@ pub mod PathEnds
 pub mod Transactions
 pub mod Blocks
 pub mod Histories
+pub mod FaultOrder
 pub mod Faultless
 pub mod Reading
 pub mod Scripts

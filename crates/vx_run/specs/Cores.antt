@@ -4,8 +4,6 @@ use Rattle.std.specs.FinMap as map
 use Rattle.vx_base.specs.declared.call.Call.{Call}
 use Rattle.vx_base.specs.declared.call.Call.TheVariants as call
 use Rattle.vx_base.specs.declared.reply.Reply.{Reply}
-use Rattle.vx_base.specs.declared.refusal.Refusal.{Refusal}
-use Rattle.vx_base.specs.declared.refusal.Refusal.TheVariants as no
 use Rattle.vx_base.specs.declared.reply.Reply.TheVariants as say
 use Rattle.vx_base.specs.declared.event.Event.{Event}
 use Rattle.vx_base.specs.declared.event.Event.TheVariants as event
@@ -114,26 +112,6 @@ numbered n (call ∷ calls) = (0, (n, call)) ∷ numbered (n + 1) calls
 -- every Do of the history is one of these calls, in their order, with its line number
 abbrev pub IsOfLines : List Event → List Call → Type 0
 IsOfLines history calls = filter_map asked_of history ≡ numbered 1 calls
-
--- a refusal has its cause: no read is made, and a fault is answered only from the first failed write on, whose count is told
-abbrev pub HasReason : Option ℕ → Refusal → Type 0
-HasReason disabled no.ReadFault = ⊥
-HasReason disabled no.WriteFault = IsSome disabled
-HasReason disabled (no.Disabled faults) = disabled ≡ Some faults
-HasReason disabled _ = Unit {0}
-
-abbrev pub IsReasoned : Option ℕ → Reply → Type 0
-IsReasoned disabled (say.Refused why) = HasReason disabled why
-IsReasoned disabled _ = Unit {0}
-
-abbrev pub AnswersWithReason : Option ℕ → Event → Type 0
-AnswersWithReason disabled (event.Do at session line call reply) = IsReasoned disabled reply
-AnswersWithReason disabled (event.Ret at place answer) = IsReasoned disabled answer
-AnswersWithReason disabled _ = Unit {0}
-
--- a mount that is disabled stays so
-abbrev pub StaysDisabled : Option ℕ → Option ℕ → Type 0
-StaysDisabled old new = (old ≡ None) ⊎ (new ≡ old)
 
 -- a history that goes no further: it is legal, and every call in it is answered
 pub record IsEnded (opened : ℕ) (history : List Event) : Type 0 where

@@ -1,5 +1,5 @@
 -- How a run ends, and why.
-use Rattle.std.specs.Prelude.{◌≡◌, ◌<◌, ◌≤◌, ◌+◌, ℕ, Bool, true, false, List, [], Option, Result, Ok, Err, IfSome, is_some, All, not, if◌then◌else◌}
+use Rattle.std.specs.Prelude.{◌≡◌, ◌<◌, ◌≤◌, ◌+◌, ℕ, Bool, true, false, List, [], Option, Result, Ok, Err, IfSome, is_some, not, if◌then◌else◌}
 use Rattle.std.specs.Io.KnownBytes.{Appends}
 use Rattle.vx_base.specs.declared.call.Call.{Call}
 use Rattle.vx_base.specs.declared.event.Event.{Event}
@@ -18,7 +18,8 @@ use Rattle.vx_log.specs.Moments.{Told, Always}
 use Rattle.vx_model.specs.Allowed.{IsAllowed}
 use Rattle.vx_model.specs.Legal.{after_all}
 use Rattle.vx_run.specs.Journals.{IsLeft}
-use Rattle.vx_run.specs.Cores.{beginning, IsEnded, is_unmounted, IsOfLines, AnswersWithReason}
+use Rattle.vx_run.specs.Faults.{EndInOrder}
+use Rattle.vx_run.specs.Cores.{beginning, IsEnded, is_unmounted, IsOfLines}
 
 -- what a run is given: its words, its script where the source tells it, its device, and the source's faults so far
 pub record Setting : Type 0 where
@@ -76,7 +77,8 @@ pub record IsUnformatted (s : Setting) (d : dev.State) : Type 0 where
   pub fewer : d.count < s.device.count + format_ops
 
 -- A run that was begun: its history is legal from a new file system on, its calls are the script's lines in order, all of them,
--- and each is answered; it ends unmounted exactly where no write failed. Where the device tells its operations, each image that a
+-- and each is answered; it ends unmounted exactly where no write failed, and no call is answered a fault before the failed write,
+-- nor otherwise behind it. Where the device tells its operations, each image that a
 -- crash may leave at any moment from the end of the format on is one that the history allows; and unmounted, the one image is
 -- clean and reads as the history's final tree.
 pub record IsFinished (s : Setting) (d : dev.State) (disabled : Bool) (history : List Event) : Type 0 where
@@ -88,7 +90,7 @@ pub record IsFinished (s : Setting) (d : dev.State) (disabled : Bool) (history :
   pub unmounted : is_unmounted s.device.count history ≡ not disabled
   pub count : Option ℕ
   pub count_is : disabled ≡ is_some count
-  pub reasons : All (AnswersWithReason count) history
+  pub faults : EndInOrder count d history
   pub fine : disabled ≡ false → d.write_faults ≡ s.device.write_faults
   pub rose : disabled ≡ true → Rose s.device.write_faults d.write_faults
   pub formatted : s.device.count + format_ops ≤ d.count

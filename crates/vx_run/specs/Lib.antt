@@ -7,6 +7,7 @@ pub mod Noted
 pub mod Journals
 pub mod Replies
 pub mod Cores
+pub mod Faults
 pub mod Words
 pub mod Reads
 pub mod Ends

@@ -7,7 +7,8 @@ ghost use Rattle.vx_model.specs.Step.{has_step};
 ghost use Rattle.vx_model.specs.Legal.{is_fault};
 ghost use Rattle.vx_model.specs.Allowed.{is_refusal};
 ghost use Rattle.vx_model.specs.State.{State};
-ghost use Rattle.vx_run.specs.Cores.{HasMode, IsReply, IsReasoned, IsMaking, made_in};
+ghost use Rattle.vx_run.specs.Cores.{HasMode, IsReply, IsMaking, made_in};
+ghost use Rattle.vx_run.specs.Faults.{FitsMount, FitsDevice, AreInOrder, EndInOrder};
 ghost use Rattle.vx_run.specs.Metadata.{state_of};
 ghost use Rattle.vx_run.specs.Devices.{Onward};
 ghost use Rattle.vx_run.specs.Journals.{IsMounted};
@@ -42,7 +43,7 @@ impl Core {
     ghost use Rattle.vx_model.specs.State.{fresh};
     ghost use Rattle.vx_run.specs.States.{new_log_blocks};
     ghost use Rattle.vx_run.specs.Journals.{IsMade, IsKept, IsLeft};
-    ghost use Rattle.vx_run.specs.Cores.{beginning, IsUntouched, IsCarried, IsCore, IsAnswered, IsRun, IsEnded, is_unmounted, IsOfLines, TellsFaults, AnswersWithReason, StaysDisabled};
+    ghost use Rattle.vx_run.specs.Cores.{beginning, IsUntouched, IsCarried, IsCore, IsAnswered, IsRun, IsEnded, is_unmounted, IsOfLines, TellsFaults};
     ghost use Rattle.vx_run.specs.Journals.{IsAtRest};
 
     /// A mount of a new file system. It takes all memory for the history of so many lines.
@@ -81,7 +82,7 @@ impl Core {
         requires short { vec_len self.old.history < 2 ^ 32 }
         ensures core { IsCore (D.state dev.new) self.new }
         ensures answered { IsAnswered line call self.old.history.items self.new.history.items }
-        ensures reasons { All (AnswersWithReason self.old.disabled) self.old.history.items → All (AnswersWithReason self.new.disabled) self.new.history.items }
+        ensures order { AreInOrder self.old.disabled (D.state dev.old) self.old.history.items → AreInOrder self.new.disabled (D.state dev.new) self.new.history.items }
         ensures capacity { vec_capacity self.old.history ≤ vec_capacity self.new.history }
         ensures opened { self.new.opened ≡ self.old.opened }
         ensures faults { (before : ℕ) → TellsFaults before (D.state dev.old).write_faults self.old.disabled → TellsFaults before (D.state dev.new).write_faults self.new.disabled }
@@ -114,7 +115,7 @@ impl Core {
         requires few { length calls.items ≤ 65535 }
         ensures core { IsCore (D.state dev.new) self.new }
         ensures lines { IsOfLines self.new.history.items calls.items }
-        ensures reasons { All (AnswersWithReason self.new.disabled) self.new.history.items }
+        ensures order { AreInOrder self.old.disabled (D.state dev.old) self.old.history.items → AreInOrder self.new.disabled (D.state dev.new) self.new.history.items }
         ensures room { vec_len self.new.history + 1 ≤ vec_capacity self.new.history }
         ensures short { vec_len self.new.history ≤ 131070 }
         ensures opened { self.new.opened ≡ self.old.opened }
@@ -136,7 +137,7 @@ impl Core {
         ensures clean { self.new.disabled ≡ None → Told (D.state dev.new) (IsLeft (after_all (beginning self.new.opened) self.new.history.items).state.tree) }
         ensures ended { IsEnded self.new.opened self.new.history.items }
         ensures unmounted { is_unmounted self.new.opened self.new.history.items ≡ is_none self.new.disabled }
-        ensures reasons { All (AnswersWithReason self.old.disabled) self.old.history.items → All (AnswersWithReason self.new.disabled) self.new.history.items }
+        ensures order { AreInOrder self.old.disabled (D.state dev.old) self.old.history.items → EndInOrder self.new.disabled (D.state dev.new) self.new.history.items }
         ensures lines { (calls : List Call) → IsOfLines self.old.history.items calls → IsOfLines self.new.history.items calls }
         ensures short { vec_len self.new.history ≤ vec_len self.old.history + 1 }
         ensures opened { self.new.opened ≡ self.old.opened }
@@ -165,8 +166,7 @@ impl Core {
         ensures rest { self.new.disabled ≡ None → IsAtRest self.new.journal }
         ensures head { self.new.journal.log.head ≤ self.old.journal.log.head + 6 }
         ensures answer { (result ≡ answer) ⊎ (is_fault result ≡ true) }
-        ensures stays { StaysDisabled self.old.disabled self.new.disabled }
-        ensures reason { IsReasoned self.old.disabled answer → IsReasoned self.new.disabled result }
+        ensures fits { FitsDevice self.old.disabled self.new.disabled (D.state dev.new) answer result }
         ensures untouched { (made ≡ None) ⊎ IsSome self.old.disabled → IsUntouched (D.state dev.old) (D.state dev.new) self.old self.new answer result }
         ensures carried { (s : State) (ino : ℕ) → made ≡ Some ino → self.old.disabled ≡ None → IsMade s (state_of self.old.metadata) ino
             → Told (D.state dev.old) (IsKept self.old.journal.log self.old.journal.homes s)
@@ -213,7 +213,7 @@ fn replies(
     ensures copy { result.1 ≡ result.0 }
     ensures reply { IsReply (state_of metadata.old) call.now result.0 (state_of metadata.new) }
     ensures sound { IsSoundOrFault result.0 }
-    ensures reason { IsReasoned disabled result.0 }
+    ensures fits { FitsMount disabled result.0 }
     ensures refused { IsSome disabled → is_refusal result.0 ≡ true }
     ensures making { IsMounted (state_of metadata.old) → HasMode call.now → IsMaking (state_of metadata.old) (state_of metadata.new) (made_in result.0) }
     ensures mounted { IsMounted (state_of metadata.old) → HasMode call.now → IsMounted (state_of metadata.new) }

@@ -18,6 +18,7 @@ use Rattle.vx_run.specs.States.{new_log_blocks}
 use Rattle.vx_run.proofs.Ending.{none_of, some_of, none_or_some, enabled_tells}
 use Rattle.vx_run.proofs.Scripts.{ended_unasked, all_built, all_modes}
 use Rattle.vx_run.proofs.Crashing.{live_formatted}
+use Rattle.vx_run.proofs.FaultOrder.{unfaulted}
 use Rattle.vx_run.proofs.top.worked.Goals as goal
 
 pub returns-in-Err-clause-ended : goal.returns-in-Err-clause-ended
@@ -105,7 +106,7 @@ returns-clause-ended g c =
       unmounted = ap (λ (o : ℕ). is_unmounted o history) (sym opened) ∙ c.unmount.ensures.unmounted ∙ none_or_some c.unmount.new.self.disabled ∙ ap not (sym c.is_some.ensures);
       count = c.unmount.new.self.disabled;
       count_is = c.is_some.ensures;
-      reasons = c.unmount.ensures.reasons c.answer_all.ensures.reasons;
+      faults = c.unmount.ensures.order (c.answer_all.ensures.order (unfaulted c.in-Ok-fresh.core.disabled (g.D.BlockDev.state c.format.new.dev) c.in-Ok-fresh.core.history.items c.in-Ok-fresh.ensures.enabled c.in-Ok-fresh.ensures.history));
       fine = λ off. tells.none (none_of c.unmount.new.self.disabled c.is_some.result c.is_some.ensures off);
       rose = λ on. tells.some (some_of c.unmount.new.self.disabled c.is_some.result c.is_some.ensures on);
       formatted = omega (arith, c.in-Ok-format.ensures.count, c.answer_all.ensures.onward.later, c.unmount.ensures.onward.later);

@@ -1,4 +1,4 @@
-use Rattle.std.proofs.Common.{◌≡◌, ◌⊎◌, ◌≤◌, ℕ, ◌++◌, ◌∷◌, [], List, length, Option, true, refl, sym, ◌∙◌, ap, subst, arith, length-append}
+use Rattle.std.proofs.Common.{◌≡◌, ◌⊎◌, ◌≤◌, ℕ, ◌++◌, ◌∷◌, [], List, length, Option, true, refl, sym, ◌∙◌, ap, subst, inr, arith, length-append}
 use Rattle.std.specs.Prelude.{All, IfSome}
 use Rattle.std.specs.declared.vec.Vec.{Vec}
 use Rattle.vx_base.specs.declared.event.Event.{Event}
@@ -10,10 +10,12 @@ use Rattle.vx_run.specs.Metadata.{state_of}
 use Rattle.vx_log.specs.Moments.{Told}
 use Rattle.vx_model.specs.Allowed.{come_by, is_refusal}
 use Rattle.vx_model.specs.AllowedLaws.{IsPlaced}
-use Rattle.vx_run.specs.Cores.{IsRun, IsReply, IsReasoned, IsMaking, IsLive}
+use Rattle.vx_run.specs.Cores.{IsRun, IsReply, IsMaking, IsLive}
 use Rattle.vx_run.specs.Journals.{IsMounted}
 use Rattle.vx_run.proofs.Crashing.{live_answered, come_answered, placed_answered}
-use Rattle.vx_run.proofs.Histories.{run_answered, reasons_answered}
+use Rattle.vx_run.specs.Faults.{FitsDevice, AreInOrder}
+use Rattle.vx_run.proofs.FaultOrder.{with_call, in_order}
+use Rattle.vx_run.proofs.Histories.{run_answered}
 use Rattle.vx_run.proofs.engine.Core.answer.Goals as goal
 
 copied : (answer copy reply : Reply) → copy ≡ reply → (answer ≡ copy) ⊎ (is_fault answer ≡ true) → (answer ≡ reply) ⊎ (is_fault answer ≡ true)
@@ -68,13 +70,19 @@ returns-clause-core g c =
       live = subst (λ (o : ℕ). Told d2 (IsLive o c.push_reserved-2.new.self.items core.disabled core.journal.log core.journal.homes (state_of core.metadata))) (sym c.durable-answer.ensures.opened) live_kept;
     }
 
-pub returns-clause-reasons : goal.returns-clause-reasons
-returns-clause-reasons g c = λ all.
+pub returns-clause-order : goal.returns-clause-order
+returns-clause-order g c = λ before.
     let h = c.args.self.now.history.items in
-    let e1 : Event = event.Do c.ops-at.result 0 c.args.line c.args.call c.replies-reply.result.0 in
-    let e2 : Event = event.Ret c.ops-at-2.result c.len-place.result c.durable-answer.result in
-    let items : c.push_reserved-2.new.self.items ≡ (h ++ e1 ∷ []) ++ e2 ∷ [] =
-    c.push_reserved-2.ensures.items ∙ ap (λ (v : Vec Event _). v.items ++ e2 ∷ []) c.durable-answer.ensures.history ∙ ap (λ (es : List Event). es ++ e2 ∷ []) c.push_reserved.ensures.items in
-    reasons_answered c.args.self.now.disabled c.durable-answer.new.self.disabled h c.push_reserved-2.new.self.items c.args.call c.args.line c.ops-at.result c.ops-at-2.result c.len-place.result
-    c.replies-reply.result.0 c.durable-answer.result c.durable-answer.ensures.stays c.replies-reply.ensures.reason
-    (c.durable-answer.ensures.reason (subst (λ (r : Reply). IsReasoned c.args.self.now.disabled r) (sym c.replies-reply.ensures.copy) c.replies-reply.ensures.reason)) items all
+    let d = g.D.BlockDev.state c.args.dev.now in
+    let d2 = g.D.BlockDev.state c.durable-answer.new.dev in
+    let old = c.args.self.now.disabled in
+    let now = c.durable-answer.new.self.disabled in
+    let reply = c.replies-reply.result.0 in
+    let answer = c.durable-answer.result in
+    let items : c.push_reserved-2.new.self.items ≡ with_call h c.ops-at.result c.ops-at-2.result c.args.line c.len-place.result c.args.call reply answer =
+    c.push_reserved-2.ensures.items ∙ ap (λ (v : Vec Event _). v.items ++ event.Ret c.ops-at-2.result c.len-place.result answer ∷ []) c.durable-answer.ensures.history
+    ∙ ap (λ (es : List Event). es ++ event.Ret c.ops-at-2.result c.len-place.result answer ∷ []) c.push_reserved.ensures.items in
+    let fits : FitsDevice old now d2 reply answer = subst (λ (r : Reply). FitsDevice old now d2 r answer) c.replies-reply.ensures.copy c.durable-answer.ensures.fits in
+    subst (λ (es : List Event). AreInOrder now d2 es) (sym items)
+    (in_order h c.ops-at.result c.ops-at-2.result c.args.line c.len-place.result c.args.call reply answer old now d d2 c.replies-reply.ensures.fits fits
+    c.ops-at.ensures.number c.ops-at-2.ensures.number (λ some. (c.durable-answer.ensures.untouched (inr some)).device) before)

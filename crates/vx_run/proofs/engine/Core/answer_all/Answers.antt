@@ -14,7 +14,7 @@ loop-call-preserved g c =
       all = append_assoc c.loop-call.yielded (c.in-Some.call ∷ []) (into_iter_items c.next.new.self) ∙ ap (λ (t : List Call). c.loop-call.yielded ++ t) (sym next) ∙ inv.all;
       lines = lines_answered c.loop-call.self.history.items c.answer.new.self.history.items c.loop-call.yielded c.in-Some.call (c.loop-call.line + 1) a.answered.at a.answered.later
           (length c.loop-call.self.history.items) a.answered.reply a.answered.answer (omega (arith, inv.number)) inv.lines a.answered.is;
-      reasons = a.reasons inv.reasons;
+      order = λ before. a.order (inv.order before);
       number = omega (arith, inv.number, length-append c.loop-call.yielded (c.in-Some.call ∷ []));
       events = omega (
         arith,

@@ -1,5 +1,6 @@
 use Rattle.std.proofs.Common.{◌≡◌, ◌+◌, ℕ, List, length, arith, ap, sym, subst, ◌∙◌}
 use Rattle.std.specs.Prelude.{is_none, IfSome}
+use Rattle.std.proofs.Common.{Some, refl}
 use Rattle.vx_base.specs.declared.event.Event.{Event}
 use Rattle.vx_log.specs.Moments.{Told, Always, Passed}
 use Rattle.vx_model.specs.Allowed.{IsAllowed}
@@ -10,6 +11,7 @@ use Rattle.vx_run.specs.Cores.{beginning}
 use Rattle.vx_run.specs.Journals.{IsLeft}
 use Rattle.vx_run.proofs.Crashing.{told_stopped, told_failed, told_unmounted, state_unmounted, kept_live}
 use Rattle.vx_run.proofs.Ending.{none_of, some_of}
+use Rattle.vx_run.proofs.FaultOrder.{end_here, end_unmounted, end_unmounting}
 use Rattle.vx_run.specs.Metadata.{state_of}
 use Rattle.vx_run.proofs.Histories.{ended_unmounted, left_clean, lines_unmounted}
 use Rattle.vx_run.proofs.engine.Core.unmount.Goals as goal
@@ -71,3 +73,16 @@ returns-in-Err-clause-allowed g c =
     c.unmount.ensures.passed s c.requires.core.mounted (kept_live core.opened core.history.items s d.told core.disabled core.journal.log core.journal.homes none c.requires.core.live) in
     told_failed c.allowed_laws.ensures core.opened core.history.items s d.count c.requires.core.run.state_is c.requires.core.placed c.requires.core.come
     d.told d2.told passed.ops core.disabled core.journal.log core.journal.homes (g.met.D.BlockDev.in_step c.args.dev.now) c.requires.core.live passed.told passed.always
+
+pub returns-then-is_some-clause-order : goal.returns-then-is_some-clause-order
+returns-then-is_some-clause-order g c = end_here c.args.self.now.disabled (g.D.BlockDev.state c.args.dev.now) c.args.self.now.history.items
+
+pub returns-in-Ok-clause-order : goal.returns-in-Ok-clause-order
+returns-in-Ok-clause-order g c =
+    end_unmounted c.args.self.now.disabled c.ops-at.result (g.D.BlockDev.state c.args.dev.now) (g.D.BlockDev.state c.unmount.new.dev) c.args.self.now.history.items c.push_reserved.new.self.items
+    (none_of c.args.self.now.disabled c.is_some.result c.is_some.ensures c.if-is_some.false) c.push_reserved.ensures.items
+
+pub returns-in-Err-clause-order : goal.returns-in-Err-clause-order
+returns-in-Err-clause-order g c =
+    end_unmounting c.args.self.now.disabled (Some c.write_faults.result) c.write_faults.result (g.D.BlockDev.state c.args.dev.now) (g.D.BlockDev.state c.unmount.new.dev) c.args.self.now.history.items
+    (none_of c.args.self.now.disabled c.is_some.result c.is_some.ensures c.if-is_some.false) refl c.write_faults.ensures
