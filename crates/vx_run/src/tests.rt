@@ -4,7 +4,7 @@ use std::alloc::{AllocError, Global};
 use std::sync::Wait;
 use std::test::Fail;
 use std::thread::Threads;
-use vx_base::{Bytes, MemSink, MemSource, NumList};
+use vx_base::{Bytes, Event, History, MemSink, MemSource, NumList};
 use vx_dev::{BlockDev, FuseDev, Image, MemDisk, Operation, pick_image};
 
 const SECTORS: u64 = 9_220;
@@ -28,6 +28,7 @@ const TEN_NAMES: &[u8] = b"abcdefghij";
 struct Seen<D: Drop> {
     status: u8,
     dev: D,
+    history: History,
     out: MemSink,
 }
 
@@ -67,9 +68,14 @@ fn run_on<R: Threads + Wait + Sync, D: BlockDev + Send + Drop>(
     let Ran {
         status,
         dev,
-        history: _,
+        history,
     } = run(rt, alloc, &words, dev, &mut source, &mut out, &OpenGate);
-    Ok(Seen { status, dev, out })
+    Ok(Seen {
+        status,
+        dev,
+        history,
+        out,
+    })
 }
 
 /// A run over a disk of zeros that fails these calls of `write` and `barrier`.
@@ -88,6 +94,14 @@ fn run_script<R: Threads + Wait + Sync>(
 fn begins(dev: &MemDisk, at: usize, s: u64, front: &[u8]) -> bool {
     match dev.operations().get(at) {
         Some(Operation::Put(sector, bytes)) => *sector == s && bytes.starts_with(front),
+        _ => false,
+    }
+}
+
+/// Whether the event at this place is a `Ret`, after so many operations.
+fn returned_at(history: &History, place: usize, ops: u64) -> bool {
+    match history.as_slice().get(place) {
+        Some(Event::Ret { at, .. }) => *at == ops,
         _ => false,
     }
 }
@@ -164,6 +178,9 @@ fn example(rt: HostRuntime) -> Result<(), Fail> {
     ];
     assert!(rt; begins(&seen.dev, 70, 4, &descriptor));
     assert!(rt; begins(&seen.dev, 71, 5, &[0xff, 0xff, 0xff, 0xff, 3]));
+    assert!(rt; begins(&seen.dev, 72, 6, &[2, 0, 0xed, 1, 1, 0, 0, 0, 0, 4]));
+    assert!(rt; begins(&seen.dev, 73, 7, &[1, 0, 6, 0, 3, 0, 0, 0, 1, b'a', 0]));
+    assert!(rt; begins(&seen.dev, 74, 8, &[0; 512]));
     assert!(rt;
         begins(
             &seen.dev,
@@ -176,6 +193,7 @@ fn example(rt: HostRuntime) -> Result<(), Fail> {
         )
     );
     assert!(rt; begins(&seen.dev, 78, 1028, &[0xff, 0xff, 0xff, 0xff, 3]));
+    assert!(rt; returned_at(&seen.history, 1, 78));
     assert_eq!(rt; seen.dev.image().as_slice().len(), 9220);
     Ok(())
 }
@@ -344,6 +362,10 @@ fn is_allowed(alloc: Global, dev: &MemDisk, moment: u64) -> Result<bool, Fail> {
 #[test]
 fn each_operation_may_fail(rt: HostRuntime) -> Result<(), Fail> {
     let alloc = rt.alloc();
+    let whole = run_script(&rt, alloc, TEN_CREATES, SECTORS, &[])?;
+    for moment in FORMAT..=whole.dev.ops() {
+        assert!(rt; is_allowed(alloc, &whole.dev, moment)?);
+    }
     for failing in 71..156u64 {
         let seen = run_script(&rt, alloc, TEN_CREATES, SECTORS, &[failing])?;
         assert_eq!(rt; seen.status, 4);
