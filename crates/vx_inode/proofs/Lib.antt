@@ -1,0 +1,5 @@
+pub mod SlotLaws
+pub mod Counts
+pub mod Kept
+pub mod Lowest
+pub mod Stored

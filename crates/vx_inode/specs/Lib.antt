@@ -1,0 +1,4 @@
+pub mod Attributes
+pub mod Slots
+pub mod Tables
+pub mod Codes
