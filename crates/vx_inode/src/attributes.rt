@@ -1,5 +1,6 @@
 //! The rules of a file's attributes.
 ghost use Rattle.std.specs.Prelude.{◌≡◌};
+ghost use Rattle.vx_base.specs.declared.call.ExtAttrs.{ExtAttrs};
 ghost use Rattle.vx_inode.specs.Attributes.{attr_check, reserves_too_much, has_flag, layout1};
 
 use vx_base::{ExtAttrs, Geom};
@@ -12,32 +13,41 @@ const NORESERVE: u8 = 8;
 
 const CHGSIZE: u8 = 32;
 
-/// Attributes break a rule.
+/// Attributes break a rule:
+///
+/// 1. the fixed extent size is at most the data blocks of a unit;
+/// 2. the reservation is at most 65,536 blocks, and at most the largest file;
+/// 3. align needs a fixed extent size;
+/// 4. contig needs a reservation;
+/// 5. contig needs a file without blocks;
+/// 6. noreserve needs a file without blocks, and doesn't stand with chgsize.
 #[derive(Clone, Copy, Debug, PartialEq, Eq)]
 pub struct BadAttr {
     /// The number of the lowest broken rule, from 1.
     pub which: u32,
 }
 
-/// Whether attributes may be given to a file.
+/// Whether attributes may be given to a file, which has blocks or none. The lowest broken rule is answered.
 pub trait CheckAttrs {
-    /// Checks attributes for a file of layout 1, which has blocks or none.
-    fn check(&self, has_blocks: bool) -> Result<(), BadAttr>;
+    ghost attrs: { Self → ExtAttrs };
 
-    /// Checks attributes for a file of a layout of these sizes.
-    fn check_with(&self, has_blocks: bool, g: &Geom) -> Result<(), BadAttr>;
+    /// Checks attributes for layout 1.
+    fn check(&self, has_blocks: bool) -> Result<(), BadAttr>
+        ensures { result ≡ attr_check layout1 has_blocks (attrs self.now) };
+
+    /// Checks attributes for a layout of these sizes.
+    fn check_with(&self, has_blocks: bool, g: &Geom) -> Result<(), BadAttr>
+        ensures { result ≡ attr_check g.now has_blocks (attrs self.now) };
 }
 
 impl CheckAttrs for ExtAttrs {
-    fn check(&self, has_blocks: bool) -> Result<(), BadAttr>
-        ensures { result ≡ attr_check layout1 has_blocks self.now }
-    {
+    ghost attrs = { λ a. a };
+
+    fn check(&self, has_blocks: bool) -> Result<(), BadAttr> {
         self.check_with(has_blocks, &Geom::layout1())
     }
 
-    fn check_with(&self, has_blocks: bool, g: &Geom) -> Result<(), BadAttr>
-        ensures { result ≡ attr_check g.now has_blocks self.now }
-    {
+    fn check_with(&self, has_blocks: bool, g: &Geom) -> Result<(), BadAttr> {
         if self.fixed > g.per_unit {
             Err(BadAttr { which: 1 })
         } else if reserves_too_much(self, g) {

@@ -1,5 +1,5 @@
 //! Inodes by their numbers.
-ghost use Rattle.std.specs.Prelude.{◌≡◌, ◌⊎◌, ◌+◌, ◌-◌, ◌*◌, ◌<◌, ◌≤◌, ℕ, ◌==◌, if◌then◌else◌, IsTrue, OnOk, OnErr, IfOk, IfSome, Ok, Err, Some, None, length, is_some};
+ghost use Rattle.std.specs.Prelude.{◌≡◌, ◌⊎◌, ◌+◌, ◌-◌, ◌*◌, ◌<◌, ◌≤◌, ℕ, IsTrue, OnOk, OnErr, IfOk, IfSome, Err, Some, None, length, is_some};
 ghost use Rattle.std.specs.Option.{option_copied};
 ghost use Rattle.std.specs.FinMap as map;
 ghost use Rattle.vx_inode.specs.Slots.{by_number};
