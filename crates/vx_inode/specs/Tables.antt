@@ -49,13 +49,15 @@ lowest_from inodes (suc more) from = if map.contains_key inodes from then lowest
 abbrev pub lowest_unused : Table → ℕ
 lowest_unused t = lowest_from t.inodes (128 * t.units) 3
 
--- every number but 0 and 1, which are never used, has an inode
+-- there are as many inodes as numbers, without 0 and 1, which are never used
 abbrev pub is_full : Table → Bool
 is_full t = map.len t.inodes == 128 * t.units - 2
 
+-- what a make is answered, but for want of memory
 abbrev pub make_answer : Table → Result ℕ MakeRefusal
 make_answer t = if is_full t then Err (NoInodes (128 * t.units - 2)) else Ok (lowest_unused t)
 
+-- one name, size 0 and no attributes
 abbrev pub new_inode : FileKind → ℕ → Inode
 new_inode kind mode = record { kind = kind; mode = mode; nlink = 1; size = 0; attrs = record { fixed = 0; reserve = 0; flags = 0 } }
 
