@@ -1,0 +1,74 @@
+-- Free runs of a map, and runs of places counted from the start of unit 0.
+use Rattle.std.proofs.Common.{◌≡◌, ℕ, ◌+◌, ◌-◌, ◌*◌, ◌<◌, ◌≤◌, Bool, true, false, leb, ltb, ◌&&◌, inl, inr, refl, sym, ◌∙◌, ap, subst, add_assoc, arith}
+use Rattle.std.proofs.lemmas.Bool.{cases_lt, and_parts, leb-true, ltb-true}
+use Rattle.vx_alloc.specs.FreeMaps.{FreeMapView, is_data, is_free, is_aligned, IsFreeRun, IsLongest, IsLowestAligned, HasNoAligned}
+use Rattle.vx_alloc.proofs.Runs.{Passes, IsRunTo, NoneBelow, LongestSoFar, SearchSoFar, part_passes, run_grows}
+
+abbrev pub free_at : FreeMapView → ℕ → Bool
+free_at view i = is_free view (view.first + i)
+
+abbrev pub aligned_at : FreeMapView → ℕ → ℕ → Bool
+aligned_at view align i = is_aligned view align (view.first + i)
+
+pub record IsWithin (view : FreeMapView) (b : ℕ) : Type 0 where
+  pub low : view.first ≤ b
+  pub high : b - view.first < 4096 * view.units
+
+pub within_units : (view : FreeMapView) (b : ℕ) → is_free view b ≡ true → IsWithin view b
+within_units view b free =
+    let parts = and_parts _ _ ((and_parts _ _ free).0) in
+    record {
+      low = leb-true view.first b parts.0;
+      high = ltb-true (b - view.first) (4096 * view.units) ((and_parts _ _ parts.1).0);
+    }
+
+-- a free run, by its place
+pub record IsPlacedRun (view : FreeMapView) (b n : ℕ) : Type 0 where
+  pub low : view.first ≤ b
+  pub high : (b - view.first) + n ≤ 4096 * view.units
+  pub passing : Passes (free_at view) (b - view.first) n
+
+pub placed_run : (view : FreeMapView) (b n : ℕ) → 0 < n → IsFreeRun view b n → IsPlacedRun view b n
+placed_run view b n some free =
+    let first : is_free view (b + 0) ≡ true = free 0 some in
+    let begins = within_units view (b + 0) first in
+    let last = within_units view (b + (n - 1)) (free (n - 1) (omega arith)) in
+    let low : view.first ≤ b + 0 = begins.low in
+    let high : b + (n - 1) - view.first < 4096 * view.units = last.high in
+    record {
+      low = omega arith;
+      high = omega arith;
+      passing = λ k h. let same : b + k ≡ view.first + ((b - view.first) + k) = omega arith in sym (ap (is_free view) same) ∙ free k h;
+    }
+
+pub free_run : (view : FreeMapView) (i n : ℕ) → Passes (free_at view) i n → IsFreeRun view (view.first + i) n
+free_run view i n passes k h = ap (is_free view) (add_assoc view.first i k) ∙ passes k h
+
+pub longest_found : (view : FreeMapView) (best start i : ℕ) → LongestSoFar (free_at view) best start i → i ≡ 4096 * view.units → IsLongest view best
+longest_found view best start i known whole = record {
+  start = view.first + known.longest.start;
+  free = free_run view known.longest.start best known.longest.passing;
+  most = λ b m free. elim (cases_lt 0 m) [
+    | inl some ↦ let run = placed_run view b m some free in let high : (b - view.first) + m ≤ 4096 * view.units = run.high in known.longest.most (b - view.first) m (omega arith) run.passing
+    | inr none ↦ omega arith
+  ];
+}
+
+pub none_found : (view : FreeMapView) (n align start i : ℕ) → 0 < n → SearchSoFar (free_at view) (aligned_at view align) n start i → i ≡ 4096 * view.units → HasNoAligned view n align
+none_found view n align start i some known whole b aligned free =
+    let run = placed_run view b n some free in
+    let low : view.first ≤ b = run.low in
+    let high : (b - view.first) + n ≤ 4096 * view.units = run.high in
+    let same : b ≡ view.first + (b - view.first) = omega arith in
+    known.none (b - view.first) (omega arith) (sym (ap (is_aligned view align) same) ∙ aligned) run.passing
+
+pub lowest_found : (view : FreeMapView) (n align start i from : ℕ) → 0 < n → SearchSoFar (free_at view) (aligned_at view align) n start i → free_at view i ≡ true → from + n ≡ i + 1 → start ≤ from → aligned_at view align from ≡ true → IsLowestAligned view n align (view.first + from)
+lowest_found view n align start i from some known here last late aligned = record {
+  free = free_run view from n (part_passes (free_at view) start (i + 1) from n (run_grows (free_at view) start i known.run here) late (omega arith));
+  aligned = aligned;
+  lowest = λ b below aligned' free.
+    let run = placed_run view b n some free in
+    let low : view.first ≤ b = run.low in
+    let same : b ≡ view.first + (b - view.first) = omega arith in
+    known.none (b - view.first) (omega arith) (sym (ap (is_aligned view align) same) ∙ aligned') run.passing;
+}

@@ -1,0 +1,313 @@
+//! The map of free blocks, unit by unit.
+ghost use Rattle.std.specs.Prelude.{◌≡◌, ◌+◌, ◌-◌, ◌*◌, ◌/◌, ◌%◌, ◌<◌, ◌≤◌, ◌^◌, ℕ, Bool, true, false, IsTrue, IfOk, IfSome, IfNone, OnOk, OnErr, max, Some, None, is_some, nat_le, ◌++◌, replicate, vec_len, vec_capacity};
+ghost use Rattle.std.specs.List.{count_by};
+ghost use Rattle.vx_alloc.specs.FreeMaps.{IsLongest, IsLowestAligned, HasNoAligned, is_aligned, is_data, is_free, is_at_or_past, is_used, free_blocks, all_free, grown, data_bits, with_bit, with_place};
+
+use std::alloc::{AllocError, Global};
+use std::marker::Model;
+use vx_base::{Block, Geom};
+
+/// Blocks in a unit.
+const UNIT_BLOCKS: u32 = 4096;
+
+/// Which data blocks of the allocation units are free, and which wait to be.
+///
+/// A unit is 4096 blocks, of which the last ones hold data. A pending block is one that becomes free
+/// once what stands before a place of the history is durable.
+#[derive(Debug, Drop)]
+pub struct FreeMap {
+    first: u32,
+    per_unit: u32,
+    units: u32,
+    room: u32,
+    free: Vec<bool>,
+    pending: Vec<Option<u64>>,
+    bar: Option<u32>,
+}
+
+impl Model for FreeMap {
+    ghost use Rattle.std.specs.Prelude.{length, vec_capacity};
+    ghost use Rattle.vx_alloc.specs.FreeMaps.{IsLongest, IsLowestAligned, HasNoAligned, is_aligned, FreeMapView, IsSound};
+
+    ghost Value = { FreeMapView };
+
+    ghost view = { λ m. record { first = m.first; per_unit = m.per_unit; units = m.units; room = m.room; free = m.free.items; pending = m.pending.items; bar = m.bar } };
+
+    ghost invariant = { λ m. IsSound m.first m.per_unit m.units m.room (length m.free.items) (length m.pending.items) (vec_capacity m.free) (vec_capacity m.pending) };
+}
+
+impl FreeMap {
+    /// All data blocks free, for units of 4063 data blocks. `first` is the start of unit 0.
+    pub fn new(alloc: Global, first: Block, units: u32) -> Result<Self, AllocError>
+        requires some { 1 ≤ units }
+        requires most { units ≤ 64 }
+        requires addresses { first + 4096 * 64 ≤ 2 ^ 32 }
+        ensures { IfOk result (λ map. map ≡ all_free first 4063 units) }
+    {
+        FreeMap::with(alloc, first, units, Geom::layout1())
+    }
+
+    /// All data blocks free, for units of a layout. `first` is the start of unit 0.
+    pub fn with(alloc: Global, first: Block, units: u32, geom: Geom) -> Result<Self, AllocError>
+        requires some { 1 ≤ units }
+        requires most { units ≤ 64 }
+        requires addresses { first + 4096 * 64 ≤ 2 ^ 32 }
+        requires unit { geom.per_unit < 4096 }
+        ensures { IfOk result (λ map. map ≡ all_free first geom.per_unit units) }
+    {
+        let mut map = FreeMap {
+            first: first.get(),
+            per_unit: geom.per_unit,
+            units: 0,
+            room: 0,
+            free: Vec::new(alloc),
+            pending: Vec::new(alloc),
+            bar: None,
+        };
+        map.reserve_units(units)?;
+        map.grow(units);
+        Ok(map)
+    }
+
+    /// Takes memory for so many units; unchanged where there is none.
+    pub fn reserve_units(&mut self, units: u32) -> Result<(), AllocError>
+        requires some { 1 ≤ units }
+        requires most { units ≤ 64 }
+        ensures ok { OnOk result (self.new ≡ record self.old { room = max self.old.room units }) }
+        ensures err { OnErr result (self.new ≡ self.old) }
+    {
+        if units <= self.room {
+            return Ok(());
+        }
+        let more = (UNIT_BLOCKS * (units - self.units)) as usize;
+        self.free.reserve(more)?;
+        self.pending.reserve(more)?;
+        self.room = units;
+        Ok(())
+    }
+
+    /// Adds units up to this number, with all their data blocks free.
+    pub fn grow(&mut self, units: u32)
+        requires more { self.old.units < units }
+        requires room { units ≤ self.old.room }
+        ensures { self.new ≡ grown self.old units }
+    {
+        let more = UNIT_BLOCKS * (units - self.units);
+        push_data_blocks(&mut self.free, self.per_unit, more);
+        push_none(&mut self.pending, more);
+        self.units = units;
+    }
+
+    /// Whether a block is a data block of one of the units.
+    pub fn is_data(&self, b: Block) -> bool
+        ensures { result ≡ is_data self.now b }
+    {
+        let block = b.get();
+        if block < self.first {
+            return false;
+        }
+        let offset = block - self.first;
+        offset < UNIT_BLOCKS * self.units
+            && is_data_place(self.per_unit, offset % UNIT_BLOCKS)
+    }
+
+    /// Whether a block is free and not barred.
+    pub fn is_free(&self, b: Block) -> bool
+        ensures { result ≡ is_free self.now b }
+    {
+        if !self.is_data(b) {
+            return false;
+        }
+        let offset = b.get() - self.first;
+        if is_barred(self.bar, offset / UNIT_BLOCKS) {
+            return false;
+        }
+        self.free[offset as usize]
+    }
+
+    /// Whether a block is a data block that is neither free nor pending.
+    pub fn is_used(&self, b: Block) -> bool
+        ensures { result ≡ is_used self.now b }
+    {
+        if !self.is_data(b) || self.is_free(b) {
+            return false;
+        }
+        let offset = b.get() - self.first;
+        self.pending[offset as usize].is_none()
+    }
+
+    /// How many blocks are free and not barred.
+    pub fn free(&self) -> u32
+        ensures { result ≡ free_blocks self.now }
+    {
+        let mut count = 0;
+        for i in 0..self.blocks() {
+            if self.is_free_at(i) {
+                count += 1;
+            }
+        }
+        count
+    }
+
+    /// The length of the longest free run, in blocks; 0 where nothing is free.
+    pub fn longest(&self) -> u32
+        ensures longest { IsLongest self.now result }
+    {
+        let mut best = 0;
+        let mut start = 0;
+        for i in 0..self.blocks() {
+            if self.is_free_at(i) {
+                best = max_of(best, i + 1 - start);
+            } else {
+                start = i + 1;
+            }
+        }
+        best
+    }
+
+    /// How many blocks are pending.
+    pub fn pending(&self) -> u32
+        ensures { result ≡ count_by is_some self.now.pending }
+    {
+        let mut count = 0;
+        for place in &self.pending {
+            if place.is_some() {
+                count += 1;
+            }
+        }
+        count
+    }
+
+    /// Takes a free block.
+    pub fn take_block(&mut self, b: Block)
+        requires { IsTrue (is_free self.old b) }
+        ensures { self.new ≡ with_bit self.old b false }
+    {
+        let offset = b.get() - self.first;
+        self.free[offset as usize] = false;
+    }
+
+    /// Makes a used block free.
+    pub fn give(&mut self, b: Block)
+        requires { IsTrue (is_used self.old b) }
+        ensures { self.new ≡ with_bit self.old b true }
+    {
+        let offset = b.get() - self.first;
+        self.free[offset as usize] = true;
+    }
+
+    /// Makes a used block wait for a place of the history.
+    pub fn pend(&mut self, place: u64, b: Block)
+        requires { IsTrue (is_used self.old b) }
+        ensures { self.new ≡ with_place self.old b place }
+    {
+        let offset = b.get() - self.first;
+        self.pending[offset as usize] = Some(place);
+    }
+
+    /// How many blocks the units have, and what is known of the numbers of these blocks.
+    fn blocks(&self) -> u32
+        ensures count { result ≡ 4096 * self.now.units }
+        ensures most { result ≤ 4096 * 64 }
+        ensures addresses { self.now.first + result ≤ 2 ^ 32 }
+    {
+        let _first = self.first;
+        UNIT_BLOCKS * self.units
+    }
+
+    /// The block that stands so far from the start of unit 0.
+    fn block_at(&self, i: u32) -> Block
+        requires { i < 4096 * self.now.units }
+        ensures { result ≡ self.now.first + i }
+    {
+        Block::new(self.first + i)
+    }
+
+    fn is_free_at(&self, i: u32) -> bool
+        requires { i < 4096 * self.now.units }
+        ensures { result ≡ is_free self.now (self.now.first + i) }
+    {
+        self.is_free(self.block_at(i))
+    }
+
+    /// Whether a block stands a multiple of `align` from the start of its unit.
+    fn is_aligned_at(&self, i: u32, align: u32) -> bool
+        requires { i < 4096 * self.now.units }
+        ensures { result ≡ is_aligned self.now align (self.now.first + i) }
+    {
+        let place = i % UNIT_BLOCKS;
+        if align == 0 {
+            return place == 0;
+        }
+        place % align == 0
+    }
+
+    /// The lowest aligned start of a free run of n blocks.
+    fn lowest_run(&self, n: u32, align: u32) -> Option<Block>
+        requires { 0 < n }
+        ensures found { IfSome result (λ b. IsLowestAligned self.now n align b) }
+        ensures none { IfNone result (HasNoAligned self.now n align) }
+    {
+        let mut start = 0;
+        for i in 0..self.blocks() {
+            if self.is_free_at(i) {
+                let length = i + 1 - start;
+                if length >= n {
+                    let from = i + 1 - n;
+                    if self.is_aligned_at(from, align) {
+                        return Some(self.block_at(from));
+                    }
+                }
+            } else {
+                start = i + 1;
+            }
+        }
+        None
+    }
+}
+
+/// Whether the block at a place of its unit holds data.
+fn is_data_place(per_unit: u32, place: u32) -> bool
+    requires { per_unit < 4096 }
+    ensures { result ≡ nat_le (4096 - per_unit) place }
+{
+    UNIT_BLOCKS - per_unit <= place
+}
+
+fn is_barred(bar: Option<u32>, unit: u32) -> bool
+    ensures { result ≡ is_at_or_past bar unit }
+{
+    match bar {
+        Some(bar) => bar <= unit,
+        None => false,
+    }
+}
+
+/// Adds the blocks of whole units, each as a data block or not, to a list that has room for them.
+fn push_data_blocks(bits: &mut Vec<bool>, per_unit: u32, blocks: u32)
+    requires unit { per_unit < 4096 }
+    requires room { vec_len bits.old + blocks ≤ vec_capacity bits.old }
+    ensures items { bits.new.items ≡ bits.old.items ++ data_bits per_unit blocks }
+    ensures capacity { vec_capacity bits.old ≤ vec_capacity bits.new }
+{
+    for i in 0..blocks {
+        let _ = bits.push(is_data_place(per_unit, i % UNIT_BLOCKS));
+    }
+}
+
+/// Adds blocks that wait for nothing, to a list that has room for them.
+fn push_none(places: &mut Vec<Option<u64>>, blocks: u32)
+    requires room { vec_len places.old + blocks ≤ vec_capacity places.old }
+    ensures items { places.new.items ≡ places.old.items ++ replicate blocks None }
+    ensures capacity { vec_capacity places.old ≤ vec_capacity places.new }
+{
+    for _block in 0..blocks {
+        let _ = places.push(None);
+    }
+}
+
+fn max_of(a: u32, b: u32) -> u32
+    ensures { result ≡ max a b }
+{
+    if a < b { b } else { a }
+}

@@ -1,0 +1,6 @@
+//! The free blocks of a device.
+#![tactic(auto)]
+
+mod free_map;
+
+pub use free_map::FreeMap;
