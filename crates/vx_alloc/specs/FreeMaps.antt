@@ -1,5 +1,5 @@
 -- The free blocks of allocation units, and which of them a call takes.
-use Rattle.std.specs.Prelude.{◌≡◌, ℕ, zero, suc, ◌+◌, ◌-◌, ◌*◌, ◌/◌, ◌%◌, ◌<◌, ◌≤◌, max, Bool, true, false, not, ◌&&◌, ◌||◌, ◌⊎◌, nat_eq, nat_lt, nat_le, if◌then◌else◌, IsTrue, Option, Some, None, is_some, List, [], ◌++◌, map, length, replicate, slice_index_or, slice_set}
+use Rattle.std.specs.Prelude.{◌≡◌, ℕ, zero, suc, ◌+◌, ◌-◌, ◌*◌, ◌/◌, ◌%◌, ◌<◌, ◌≤◌, max, Bool, true, false, not, ◌&&◌, ◌||◌, ◌⊎◌, nat_eq, nat_lt, nat_le, if◌then◌else◌, IsTrue, Option, Some, None, is_some, List, [], ◌++◌, map, length, replicate, take, slice_index_or, slice_set}
 use Rattle.std.specs.List.{range_with_len}
 
 -- each unit has 4096 blocks, and its data blocks are the last `per_unit` of them
@@ -71,6 +71,15 @@ grown view units =
 abbrev pub all_free : ℕ → ℕ → ℕ → FreeMapView
 all_free first per_unit units =
     record { first = first; per_unit = per_unit; units = units; room = units; free = data_bits per_unit (4096 * units); pending = replicate (4096 * units) None; bar = None }
+
+-- no data block of the units from one on is in use
+abbrev pub IsUnusedFrom : FreeMapView → ℕ → Type 0
+IsUnusedFrom view units = (b : ℕ) → is_data view b ≡ true → units ≤ unit_of view b → (is_in_set view b || is_some (place_of view b)) ≡ true
+
+-- fewer units, and no bar
+abbrev pub shrunk : FreeMapView → ℕ → FreeMapView
+shrunk view units =
+    record view { units = units; free = take (4096 * units) view.free; pending = take (4096 * units) view.pending; bar = None }
 
 -- the n blocks from b on are free
 abbrev pub IsFreeRun : FreeMapView → ℕ → ℕ → Type 0

@@ -1,7 +1,7 @@
 //! The map of free blocks, unit by unit.
-ghost use Rattle.std.specs.Prelude.{◌≡◌, ◌+◌, ◌-◌, ◌*◌, ◌/◌, ◌%◌, ◌<◌, ◌≤◌, ◌^◌, ℕ, Bool, true, false, IsTrue, IfOk, IfSome, IfNone, OnOk, OnErr, max, Some, None, is_some, nat_le, ◌++◌, replicate, vec_len, vec_capacity};
+ghost use Rattle.std.specs.Prelude.{◌≡◌, ◌+◌, ◌-◌, ◌*◌, ◌/◌, ◌%◌, ◌<◌, ◌≤◌, ◌^◌, ℕ, Bool, true, false, IsTrue, IfOk, IfSome, IfNone, OnOk, OnErr, max, Some, None, is_some, nat_le, ◌++◌, replicate, vec_len, vec_capacity, length};
 ghost use Rattle.std.specs.List.{count_by};
-ghost use Rattle.vx_alloc.specs.FreeMaps.{IsLongest, IsLowestAligned, HasNoAligned, is_aligned, is_data, is_free, is_at_or_past, is_used, free_blocks, all_free, grown, data_bits, with_bit, with_place};
+ghost use Rattle.vx_alloc.specs.FreeMaps.{IsFreeRun, IsLowestRun, HasNoRun, IsAtLongest, IsStart, IsPlaced, can_follow, unit_of, without_run, cleared, is_before, free_with, still_pending, released, IsLongest, IsLowestAligned, HasNoAligned, is_aligned, is_data, is_free, is_at_or_past, is_used, free_blocks, all_free, grown, shrunk, IsUnusedFrom, data_bits, with_bit, with_place};
 
 use std::alloc::{AllocError, Global};
 use std::marker::Model;
@@ -27,7 +27,7 @@ pub struct FreeMap {
 
 impl Model for FreeMap {
     ghost use Rattle.std.specs.Prelude.{length, vec_capacity};
-    ghost use Rattle.vx_alloc.specs.FreeMaps.{IsLongest, IsLowestAligned, HasNoAligned, is_aligned, FreeMapView, IsSound};
+    ghost use Rattle.vx_alloc.specs.FreeMaps.{IsFreeRun, IsLowestRun, HasNoRun, IsAtLongest, IsStart, IsPlaced, can_follow, unit_of, without_run, cleared, is_before, free_with, still_pending, released, IsLongest, IsLowestAligned, HasNoAligned, is_aligned, FreeMapView, IsSound};
 
     ghost Value = { FreeMapView };
 
@@ -96,6 +96,20 @@ impl FreeMap {
         push_data_blocks(&mut self.free, self.per_unit, more);
         push_none(&mut self.pending, more);
         self.units = units;
+    }
+
+    /// Leaves only the units up to this number, forgets all blocks of the others, and ends the bar.
+    pub fn shrink(&mut self, units: u32)
+        requires some { 1 ≤ units }
+        requires fewer { units < self.old.units }
+        requires unused { IsUnusedFrom self.old units }
+        ensures { self.new ≡ shrunk self.old units }
+    {
+        self.units = units;
+        let blocks = (UNIT_BLOCKS * self.units) as usize;
+        self.free.truncate(blocks);
+        self.pending.truncate(blocks);
+        self.bar = None;
     }
 
     /// Whether a block is a data block of one of the units.
@@ -178,6 +192,58 @@ impl FreeMap {
         count
     }
 
+    /// Takes a block for a page that follows `after`, the block of the page before it. `first` is the
+    /// length of the first extent, for a file without any block. None exactly where nothing is free.
+    pub fn take_next(&mut self, after: Option<Block>, first: Option<u32>) -> Option<Block>
+        ensures placed { IfSome result (λ b. IsPlaced self.old after first b) }
+        ensures taken { IfSome result (λ b. self.new ≡ with_bit self.old b false) }
+        ensures full { IfNone result (IsLongest self.old 0) }
+        ensures unchanged { IfNone result (self.new ≡ self.old) }
+    {
+        match self.next_block(after, first) {
+            Some(b) => {
+                self.take_block(b);
+                Some(b)
+            }
+            None => None,
+        }
+    }
+
+    /// Takes n blocks at the lowest start of a free run of n; None exactly where there is none.
+    pub fn take_run(&mut self, n: u32) -> Option<Block>
+        requires { 0 < n }
+        ensures lowest { IfSome result (λ b. IsLowestRun self.old n b) }
+        ensures taken { IfSome result (λ b. self.new ≡ without_run self.old b n) }
+        ensures none { IfNone result (HasNoRun self.old n) }
+        ensures unchanged { IfNone result (self.new ≡ self.old) }
+    {
+        match self.lowest_of(n) {
+            Some(b) => {
+                self.take_blocks(b, n);
+                Some(b)
+            }
+            None => None,
+        }
+    }
+
+    /// Takes n blocks at the lowest start of a free run of n that is a multiple of `align` from the start
+    /// of its unit; None exactly where there is none.
+    pub fn take_aligned(&mut self, n: u32, align: u32) -> Option<Block>
+        requires { 0 < n }
+        ensures lowest { IfSome result (λ b. IsLowestAligned self.old n align b) }
+        ensures taken { IfSome result (λ b. self.new ≡ without_run self.old b n) }
+        ensures none { IfNone result (HasNoAligned self.old n align) }
+        ensures unchanged { IfNone result (self.new ≡ self.old) }
+    {
+        match self.lowest_run(n, align) {
+            Some(b) => {
+                self.take_blocks(b, n);
+                Some(b)
+            }
+            None => None,
+        }
+    }
+
     /// Takes a free block.
     pub fn take_block(&mut self, b: Block)
         requires { IsTrue (is_free self.old b) }
@@ -203,6 +269,28 @@ impl FreeMap {
     {
         let offset = b.get() - self.first;
         self.pending[offset as usize] = Some(place);
+    }
+
+    /// Makes every pending block free whose place is below `upto`, and answers how many.
+    pub fn release(&mut self, upto: u64) -> u32
+        ensures count { result ≡ count_by (is_before upto) self.old.pending }
+        ensures released { self.new ≡ released self.old upto }
+    {
+        release_before(&mut self.free, &mut self.pending, upto)
+    }
+
+    /// Bars the units from one on: their blocks count as not free.
+    pub fn bar(&mut self, unit: u32)
+        ensures { self.new ≡ record self.old { bar = Some unit } }
+    {
+        self.bar = Some(unit);
+    }
+
+    /// Ends the bar.
+    pub fn unbar(&mut self)
+        ensures { self.new ≡ record self.old { bar = None } }
+    {
+        self.bar = None;
     }
 
     /// How many blocks the units have, and what is known of the numbers of these blocks.
@@ -264,6 +352,88 @@ impl FreeMap {
         }
         None
     }
+
+    /// The lowest start of a free run of n blocks.
+    fn lowest_of(&self, n: u32) -> Option<Block>
+        requires { 0 < n }
+        ensures found { IfSome result (λ b. IsLowestRun self.now n b) }
+        ensures none { IfNone result (HasNoRun self.now n) }
+    {
+        self.lowest_run(n, 1)
+    }
+
+    /// The first block of the longest free run.
+    fn at_longest(&self) -> Option<Block>
+        ensures found { IfSome result (λ b. IsAtLongest self.now b) }
+        ensures full { IfNone result (IsLongest self.now 0) }
+    {
+        let length = self.longest();
+        if length == 0 {
+            return None;
+        }
+        self.lowest_of(length)
+    }
+
+    /// The block after `block`, if a page may go there.
+    fn following(&self, block: Block) -> Option<Block>
+        ensures found { IfSome result (λ b. (can_follow self.now (Some block) ≡ true) × (b ≡ block + 1)) }
+        ensures none { IfNone result (can_follow self.now (Some block) ≡ false) }
+    {
+        let _blocks = self.blocks();
+        if block.get() == u32::MAX {
+            return None;
+        }
+        let next = Block::new(block.get() + 1);
+        if self.is_free(next) && self.unit_of(block) == self.unit_of(next) {
+            return Some(next);
+        }
+        None
+    }
+
+    /// Where a page goes that can't follow the page before it.
+    fn start(&self, first: Option<u32>) -> Option<Block>
+        ensures found { IfSome result (λ b. IsStart self.now first b) }
+        ensures full { IfNone result (IsLongest self.now 0) }
+    {
+        match first {
+            Some(n) => match self.lowest_of(max_of(n, 1)) {
+                Some(b) => Some(b),
+                None => self.at_longest(),
+            },
+            None => self.at_longest(),
+        }
+    }
+
+    fn next_block(&self, after: Option<Block>, first: Option<u32>) -> Option<Block>
+        ensures found { IfSome result (λ b. IsPlaced self.now after first b) }
+        ensures full { IfNone result (IsLongest self.now 0) }
+    {
+        match after {
+            Some(block) => match self.following(block) {
+                Some(b) => Some(b),
+                None => self.start(first),
+            },
+            None => self.start(first),
+        }
+    }
+
+    fn unit_of(&self, b: Block) -> u32
+        ensures { result ≡ unit_of self.now b }
+    {
+        if b.get() < self.first {
+            return 0;
+        }
+        (b.get() - self.first) / UNIT_BLOCKS
+    }
+
+    fn take_blocks(&mut self, b: Block, n: u32)
+        requires free { IsFreeRun self.old b n }
+        requires some { 0 < n }
+        ensures { self.new ≡ without_run self.old b n }
+    {
+        let from = b.get() - self.first;
+        clear(&mut self.free, from as usize, n as usize);
+    }
 }
 
 /// Whether the block at a place of its unit holds data.
@@ -310,4 +480,41 @@ fn max_of(a: u32, b: u32) -> u32
     ensures { result ≡ max a b }
 {
     if a < b { b } else { a }
+}
+
+fn clear(bits: &mut [bool], from: usize, n: usize)
+    requires { from + n ≤ length bits.old }
+    ensures { bits.new ≡ cleared bits.old from n }
+{
+    for k in 0..n {
+        bits[from + k] = false;
+    }
+}
+
+/// Sets the bit of each block whose place is below `upto`, takes the place away, and counts these blocks.
+fn release_before(free: &mut [bool], pending: &mut [Option<u64>], upto: u64) -> u32
+    requires same { length free.old ≡ length pending.old }
+    requires few { length free.old ≤ 4096 * 64 }
+    ensures count { result ≡ count_by (is_before upto) pending.old }
+    ensures free { free.new ≡ free_with upto pending.old free.old }
+    ensures pending { pending.new ≡ still_pending upto pending.old }
+{
+    let mut count = 0;
+    for i in 0..free.len() {
+        if is_before(pending[i], upto) {
+            pending[i] = None;
+            free[i] = true;
+            count += 1;
+        }
+    }
+    count
+}
+
+fn is_before(place: Option<u64>, upto: u64) -> bool
+    ensures { result ≡ is_before upto place }
+{
+    match place {
+        Some(place) => place < upto,
+        None => false,
+    }
 }

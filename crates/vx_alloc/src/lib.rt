@@ -4,3 +4,6 @@
 mod free_map;
 
 pub use free_map::FreeMap;
+
+#[cfg(test)]
+mod tests;
