@@ -51,15 +51,15 @@ module _ (upto : ℕ) (bits_old : List Bool) (places_old : List (Option ℕ)) (c
         bits_done = λ k h. elim (cases_lt k i) [
           | inl below ↦ let other : k ≢ i = omega arith in get_or-set_other bits i k true false other ∙ known.bits_done k below
           | inr above ↦
-            let same : i ≡ k = omega arith in
-            subst (λ m. get_or (set bits i true) m false ≡ bit_after upto (get_or places_old m None) (get_or bits_old m false)) same
+              let same : i ≡ k = omega arith in
+              subst (λ m. get_or (set bits i true) m false ≡ bit_after upto (get_or places_old m None) (get_or bits_old m false)) same
               (get_or-set_same bits i true false in_bits' ∙ sym (ap (λ b. b || get_or bits_old i false) due_old))
         ];
         places_done = λ k h. elim (cases_lt k i) [
           | inl below ↦ let other : k ≢ i = omega arith in get_or-set_other places i k None None other ∙ known.places_done k below
           | inr above ↦
-            let same : i ≡ k = omega arith in
-            subst (λ m. get_or (set places i None) m None ≡ place_after upto (get_or places_old m None)) same
+              let same : i ≡ k = omega arith in
+              subst (λ m. get_or (set places i None) m None ≡ place_after upto (get_or places_old m None)) same
               (get_or-set_same places i None None in_places' ∙ sym (ap (λ b. cond b None (get_or places_old i None)) due_old))
         ];
         bits_left = λ k h. let other : k ≢ i = omega arith in get_or-set_other bits i k true false other ∙ known.bits_left k (omega arith);
@@ -77,15 +77,15 @@ module _ (upto : ℕ) (bits_old : List Bool) (places_old : List (Option ℕ)) (c
         bits_done = λ k h. elim (cases_lt k i) [
           | inl below ↦ known.bits_done k below
           | inr above ↦
-            let same : i ≡ k = omega arith in
-            subst (λ m. get_or bits m false ≡ bit_after upto (get_or places_old m None) (get_or bits_old m false)) same
+              let same : i ≡ k = omega arith in
+              subst (λ m. get_or bits m false ≡ bit_after upto (get_or places_old m None) (get_or bits_old m false)) same
               (known.bits_left i (omega arith) ∙ sym (ap (λ b. b || get_or bits_old i false) due_old))
         ];
         places_done = λ k h. elim (cases_lt k i) [
           | inl below ↦ known.places_done k below
           | inr above ↦
-            let same : i ≡ k = omega arith in
-            subst (λ m. get_or places m None ≡ place_after upto (get_or places_old m None)) same
+              let same : i ≡ k = omega arith in
+              subst (λ m. get_or places m None ≡ place_after upto (get_or places_old m None)) same
               (known.places_left i (omega arith) ∙ sym (ap (λ b. cond b None (get_or places_old i None)) due_old))
         ];
         bits_left = λ k h. known.bits_left k (omega arith);
@@ -102,4 +102,4 @@ release_bits upto bits_old places_old count i bits places known whole =
 pub release_places : (upto : ℕ) (bits_old : List Bool) (places_old : List (Option ℕ)) (count i : ℕ) (bits : List Bool) (places : List (Option ℕ)) → IsReleasedTo upto bits_old places_old count i bits places → length places_old ≤ i → places ≡ still_pending upto places_old
 release_places upto bits_old places_old count i bits places known whole =
     ext_get_or None places (still_pending upto places_old) (known.as_many_places ∙ sym (length-map places_old (place_after upto)))
-      (λ k h. let e = known.as_many_places in let inside : k < length places_old = omega (arith, e) in known.places_done k (omega (arith, e)) ∙ sym (get_or-map (place_after upto) places_old k None None inside))
+    (λ k h. let e = known.as_many_places in let inside : k < length places_old = omega (arith, e) in known.places_done k (omega (arith, e)) ∙ sym (get_or-map (place_after upto) places_old k None None inside))

@@ -36,11 +36,11 @@ run_ends test start i run here = record {
 pub begins_late : (test : ℕ → Bool) (start i c n : ℕ) → IsRunTo test start i → c + n ≡ i → 0 < n → Passes test c n → start ≤ c
 begins_late test start i c n run ends some passes = elim (cases_lt c start) [
   | inl below ↦
-    let w : start ≤ i = run.within in
-    let off : ℕ = (start - 1) - c in
-    let short : off < n = omega arith in
-    let there : c + off ≡ start - 1 = omega arith in
-    absurd (both_ways (test (start - 1)) (run.edge (start - 1) (omega arith)) (sym (ap test there) ∙ passes off short))
+      let w : start ≤ i = run.within in
+      let off : ℕ = (start - 1) - c in
+      let short : off < n = omega arith in
+      let there : c + off ≡ start - 1 = omega arith in
+      absurd (both_ways (test (start - 1)) (run.edge (start - 1) (omega arith)) (sym (ap test there) ∙ passes off short))
   | inr above ↦ above
 ]
 
@@ -68,7 +68,7 @@ none_past_gap test wanted n i some none here c ends want passes = elim (cases_lt
 pub none_while_short : (test wanted : ℕ → Bool) (n start i : ℕ) → 0 < n → NoneBelow test wanted n i → IsRunTo test start (i + 1) → i + 1 < start + n → NoneBelow test wanted n (i + 1)
 none_while_short test wanted n start i some none run short c ends want passes = elim (cases_lt i (c + n)) [
   | inl last ↦
-    let late : start ≤ c = begins_late test start (i + 1) c n run (omega arith) some passes in absurd (omega arith)
+      let late : start ≤ c = begins_late test start (i + 1) c n run (omega arith) some passes in absurd (omega arith)
   | inr before ↦ none c before want passes
 ]
 

@@ -1,7 +1,8 @@
 -- Free runs of a map, and runs of places counted from the start of unit 0.
-use Rattle.std.proofs.Common.{◌≡◌, ℕ, ◌+◌, ◌-◌, ◌*◌, ◌<◌, ◌≤◌, Bool, true, false, leb, ltb, ◌&&◌, inl, inr, refl, sym, ◌∙◌, ap, subst, add_assoc, arith}
-use Rattle.std.proofs.lemmas.Bool.{cases_lt, and_parts, leb-true, ltb-true}
-use Rattle.vx_alloc.specs.FreeMaps.{FreeMapView, is_data, is_free, is_aligned, IsFreeRun, IsLongest, IsLowestAligned, HasNoAligned}
+use Rattle.std.proofs.Common.{◌≡◌, ℕ, ◌+◌, ◌-◌, ◌*◌, ◌%◌, ◌<◌, ◌≤◌, Bool, true, false, leb, ltb, ◌&&◌, Option, inl, inr, refl, sym, ◌∙◌, ap, subst, add_assoc, arith}
+use Rattle.std.proofs.lemmas.Bool.{cases_lt, and_parts, or_left, leb-true, ltb-true}
+use Rattle.std.proofs.lemmas.List.FromFn.{get_or-map-range_with_len}
+use Rattle.vx_alloc.specs.FreeMaps.{FreeMapView, all_free, IsUnusedFrom, is_data, is_free, is_aligned, IsFreeRun, IsLongest, IsLowestAligned, HasNoAligned}
 use Rattle.vx_alloc.proofs.Runs.{Passes, IsRunTo, NoneBelow, LongestSoFar, SearchSoFar, part_passes, run_grows}
 
 abbrev pub free_at : FreeMapView → ℕ → Bool
@@ -67,8 +68,15 @@ lowest_found view n align start i from some known here last late aligned = recor
   free = free_run view from n (part_passes (free_at view) start (i + 1) from n (run_grows (free_at view) start i known.run here) late (omega arith));
   aligned = aligned;
   lowest = λ b below aligned' free.
-    let run = placed_run view b n some free in
-    let low : view.first ≤ b = run.low in
-    let same : b ≡ view.first + (b - view.first) = omega arith in
-    known.none (b - view.first) (omega arith) (sym (ap (is_aligned view align) same) ∙ aligned') run.passing;
+      let run = placed_run view b n some free in
+      let low : view.first ≤ b = run.low in
+      let same : b ≡ view.first + (b - view.first) = omega arith in
+      known.none (b - view.first) (omega arith) (sym (ap (is_aligned view align) same) ∙ aligned') run.passing;
 }
+
+-- in a map whose data blocks are all free, none is in use
+pub none_used : (first per_unit units from : ℕ) (bar : Option ℕ) → IsUnusedFrom (record (all_free first per_unit units) { bar = bar }) from
+none_used first per_unit units from bar b in_units past =
+    let parts = and_parts _ _ in_units in
+    let inner = and_parts _ _ parts.1 in
+    or_left _ _ (get_or-map-range_with_len (λ i. leb (4096 - per_unit) (i % 4096)) 0 (4096 * units) (b - first) (b - first) false (ltb-true (b - first) (4096 * units) inner.0) (omega arith) ∙ inner.1)

@@ -121,8 +121,7 @@ impl FreeMap {
             return false;
         }
         let offset = block - self.first;
-        offset < UNIT_BLOCKS * self.units
-            && is_data_place(self.per_unit, offset % UNIT_BLOCKS)
+        offset < UNIT_BLOCKS * self.units && is_data_place(self.per_unit, offset % UNIT_BLOCKS)
     }
 
     /// Whether a block is free and not barred.
@@ -196,8 +195,9 @@ impl FreeMap {
     /// length of the first extent, for a file without any block. None exactly where nothing is free.
     pub fn take_next(&mut self, after: Option<Block>, first: Option<u32>) -> Option<Block>
         ensures placed { IfSome result (λ b. IsPlaced self.old after first b) }
+        ensures free { IfSome result (λ b. IsTrue (is_free self.old b)) }
         ensures taken { IfSome result (λ b. self.new ≡ with_bit self.old b false) }
-        ensures full { IfNone result (IsLongest self.old 0) }
+        ensures full { IfNone result (free_blocks self.old ≡ 0) }
         ensures unchanged { IfNone result (self.new ≡ self.old) }
     {
         match self.next_block(after, first) {

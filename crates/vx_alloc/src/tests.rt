@@ -11,7 +11,10 @@ fn a_fresh_unit(rt: HostRuntime) -> Result<(), Fail> {
     assert_eq!(rt; map.take_run(4064), None);
     assert_eq!(rt; map.take_next(None, Some(8)), Some(Block::new(547)));
     assert_eq!(rt; map.take_aligned(8, 8), Some(Block::new(554)));
-    assert_eq!(rt; map.take_next(Some(Block::new(547)), None), Some(Block::new(548)));
+    assert_eq!(rt;
+        map.take_next(Some(Block::new(547)), None),
+        Some(Block::new(548))
+    );
     assert_eq!(rt; map.take_next(None, None), Some(Block::new(562)));
     assert_eq!(rt; map.take_run(5), Some(Block::new(549)));
     assert_eq!(rt; map.free(), 4063 - 16);

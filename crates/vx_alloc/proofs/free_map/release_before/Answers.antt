@@ -12,9 +12,9 @@ loop-i-preserved c =
     let in_places : c.loop-i.i < length c.args.pending.now = omega arith in
     elim c.if-is_before.branch [
       | then-is_before w ↦
-        rw (w.free-is, w.pending-is, w.count-is) (release_yes c.args.upto c.args.free.now c.args.pending.now c.loop-i.count c.loop-i.i c.loop-i.free c.loop-i.pending c.loop-i.invariant in_bits in_places (sym c.is_before.ensures ∙ w.if-is_before.true))
+          rw (w.free-is, w.pending-is, w.count-is) (release_yes c.args.upto c.args.free.now c.args.pending.now c.loop-i.count c.loop-i.i c.loop-i.free c.loop-i.pending c.loop-i.invariant in_bits in_places (sym c.is_before.ensures ∙ w.if-is_before.true))
       | else-is_before w ↦
-        rw (w.free-is, w.pending-is, w.count-is) (release_no c.args.upto c.args.free.now c.args.pending.now c.loop-i.count c.loop-i.i c.loop-i.free c.loop-i.pending c.loop-i.invariant in_bits in_places (sym c.is_before.ensures ∙ w.if-is_before.false))
+          rw (w.free-is, w.pending-is, w.count-is) (release_no c.args.upto c.args.free.now c.args.pending.now c.loop-i.count c.loop-i.i c.loop-i.free c.loop-i.pending c.loop-i.invariant in_bits in_places (sym c.is_before.ensures ∙ w.if-is_before.false))
     ]
 
 pub returns-clause-count : goal.returns-clause-count

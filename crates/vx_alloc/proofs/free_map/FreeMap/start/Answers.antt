@@ -9,4 +9,4 @@ no_first_extent view n None none found = tt
 pub returns-in-None-lowest_of-clause-found : goal.returns-in-None-lowest_of-clause-found
 returns-in-None-lowest_of-clause-found c =
     subst (λ first. IfSome c.at_longest.result (λ b. IsStart c.args.self.now first b)) (sym c.in-Some.is)
-      (no_first_extent c.args.self.now c.in-Some.n c.at_longest.result (subst (HasNoRun c.args.self.now) c.max_of.ensures c.in-None-lowest_of.ensures.none) c.at_longest.ensures.found)
+    (no_first_extent c.args.self.now c.in-Some.n c.at_longest.result (subst (HasNoRun c.args.self.now) c.max_of.ensures c.in-None-lowest_of.ensures.none) c.at_longest.ensures.found)
