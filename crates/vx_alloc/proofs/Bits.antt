@@ -1,5 +1,5 @@
 -- Lists of blocks that are data blocks or not.
-use Rattle.std.proofs.Common.{◌≡◌, ℕ, ◌+◌, ◌-◌, ◌%◌, List, ◌∷◌, [], ◌++◌, Bool, true, cond, length, leb, refl, sym, ap, ◌∙◌, append_assoc, arith}
+use Rattle.std.proofs.Common.{◌≡◌, ℕ, ◌+◌, ◌-◌, ◌%◌, List, ◌∷◌, [], ◌++◌, Bool, true, cond, length, leb, sym, ap, ◌∙◌, append_assoc, arith}
 use Rattle.std.proofs.lemmas.List.FromFn.{map-range_with_len_more, length-map-range_with_len}
 use Rattle.vx_alloc.specs.FreeMaps.{data_bits}
 

@@ -1,5 +1,5 @@
 -- Where a page goes.
-use Rattle.std.proofs.Common.{◌≡◌, ℕ, zero, suc, ◌+◌, ◌-◌, ◌*◌, ◌%◌, ◌<◌, ◌≤◌, max, Bool, if◌then◌else◌, true, false, ◌&&◌, Option, Some, None, ◌⊎◌, inl, inr, refl, sym, ◌∙◌, ap, subst, arith, add-zero}
+use Rattle.std.proofs.Common.{◌≡◌, ℕ, zero, suc, ◌+◌, ◌-◌, ◌*◌, ◌%◌, ◌<◌, ◌≤◌, max, Bool, if◌then◌else◌, true, false, Option, Some, None, inl, inr, refl, sym, ◌∙◌, ap, arith}
 use Rattle.std.proofs.lemmas.Bool.{cases_Bool, and_parts, and_left, eq-eqb, false_from_ne_true}
 use Rattle.vx_alloc.specs.FreeMaps.{FreeMapView, free_blocks, count_below, is_free, is_aligned, place_in_unit, can_follow, IsFreeRun, IsLowestRun, HasNoRun, IsLowestAligned, HasNoAligned, IsAtLongest, IsAfter, IsStart, IsPlaced, IsLongest}
 use Rattle.vx_alloc.proofs.Units.{within_units}
@@ -48,12 +48,12 @@ none_past_end view block past =
 
 count_none : (test : ℕ → Bool) (n : ℕ) → ((k : ℕ) → test k ≡ false) → count_below test n ≡ 0
 count_none test zero none = refl
-count_none test (suc n) none = ap (λ bit. count_below test n + (if bit then 1 else 0)) (none n) ∙ ap (λ m. m + 0) (count_none test n none) 
+count_none test (suc n) none = ap (λ bit. count_below test n + (if bit then 1 else 0)) (none n) ∙ ap (λ m. m + 0) (count_none test n none)
 
 -- where the longest run has no block, none is free
 pub none_free : (view : FreeMapView) → IsLongest view 0 → free_blocks view ≡ 0
 none_free view longest =
     count_none (λ i. is_free view (view.first + i)) (4096 * view.units) (λ k. false_from_ne_true _ (λ free.
-        let run : IsFreeRun view (view.first + k) 1 = λ j below. let same : view.first + k + j ≡ view.first + k = omega arith in ap (is_free view) same ∙ free in
-        let short : 1 ≤ 0 = longest.most (view.first + k) 1 run in
-        absurd (omega arith)))
+    let run : IsFreeRun view (view.first + k) 1 = λ j below. let same : view.first + k + j ≡ view.first + k = omega arith in ap (is_free view) same ∙ free in
+    let short : 1 ≤ 0 = longest.most (view.first + k) 1 run in
+    absurd (omega arith)))

@@ -1,9 +1,9 @@
 -- Free runs of a map, and runs of places counted from the start of unit 0.
-use Rattle.std.proofs.Common.{◌≡◌, ℕ, ◌+◌, ◌-◌, ◌*◌, ◌%◌, ◌<◌, ◌≤◌, Bool, true, false, leb, ltb, ◌&&◌, Option, inl, inr, refl, sym, ◌∙◌, ap, subst, add_assoc, arith}
+use Rattle.std.proofs.Common.{◌≡◌, ℕ, ◌+◌, ◌-◌, ◌*◌, ◌%◌, ◌<◌, ◌≤◌, Bool, true, false, leb, Option, inl, inr, sym, ◌∙◌, ap, add_assoc, arith}
 use Rattle.std.proofs.lemmas.Bool.{cases_lt, and_parts, or_left, leb-true, ltb-true}
 use Rattle.std.proofs.lemmas.List.FromFn.{get_or-map-range_with_len}
-use Rattle.vx_alloc.specs.FreeMaps.{FreeMapView, all_free, IsUnusedFrom, is_data, is_free, is_aligned, IsFreeRun, IsLongest, IsLowestAligned, HasNoAligned}
-use Rattle.vx_alloc.proofs.Runs.{Passes, IsRunTo, NoneBelow, LongestSoFar, SearchSoFar, part_passes, run_grows}
+use Rattle.vx_alloc.specs.FreeMaps.{FreeMapView, all_free, IsUnusedFrom, is_free, is_aligned, IsFreeRun, IsLongest, IsLowestAligned, HasNoAligned}
+use Rattle.vx_alloc.proofs.Runs.{Passes, LongestSoFar, SearchSoFar, part_passes, run_grows}
 
 abbrev pub free_at : FreeMapView → ℕ → Bool
 free_at view i = is_free view (view.first + i)

@@ -1,5 +1,5 @@
 -- The free blocks of allocation units, and which of them a call takes.
-use Rattle.std.specs.Prelude.{◌≡◌, ℕ, zero, suc, ◌+◌, ◌-◌, ◌*◌, ◌/◌, ◌%◌, ◌<◌, ◌≤◌, max, Bool, true, false, not, ◌&&◌, ◌||◌, ◌⊎◌, nat_eq, nat_lt, nat_le, if◌then◌else◌, IsTrue, Option, Some, None, is_some, List, [], ◌++◌, map, length, replicate, take, slice_index_or, slice_set}
+use Rattle.std.specs.Prelude.{◌≡◌, ℕ, zero, suc, ◌+◌, ◌-◌, ◌*◌, ◌/◌, ◌%◌, ◌<◌, ◌≤◌, max, Bool, true, false, not, ◌&&◌, ◌||◌, ◌⊎◌, nat_eq, nat_lt, nat_le, if◌then◌else◌, Option, Some, None, is_some, List, ◌++◌, map, length, replicate, take, slice_index_or, slice_set}
 use Rattle.std.specs.List.{range_with_len}
 
 -- each unit has 4096 blocks, and its data blocks are the last `per_unit` of them

@@ -1,4 +1,4 @@
-use Rattle.std.proofs.Common.{◌≡◌, ◌<◌, ◌≤◌, length, sym, ◌∙◌, arith}
+use Rattle.std.proofs.Common.{◌<◌, length, sym, ◌∙◌, arith}
 use Rattle.vx_alloc.proofs.Releases.{release_begins, release_yes, release_no, release_count, release_bits, release_places}
 use Rattle.vx_alloc.proofs.free_map.release_before.Goals as goal
 use Rattle.vx_alloc.proofs.free_map.release_before.Goals.{then-is_before, else-is_before}

@@ -1,4 +1,4 @@
-use Rattle.std.proofs.Common.{◌≡◌, Option, Some, None, IfSome, IfNone, ℕ}
+use Rattle.std.proofs.Common.{Option, Some, None, IfSome, IfNone, ℕ}
 use Rattle.vx_alloc.specs.FreeMaps.{FreeMapView, IsLowestRun, HasNoRun, IsLowestAligned, HasNoAligned}
 use Rattle.vx_alloc.proofs.Placing.{lowest_unaligned, none_unaligned}
 use Rattle.vx_alloc.proofs.free_map.FreeMap.lowest_of.Goals as goal

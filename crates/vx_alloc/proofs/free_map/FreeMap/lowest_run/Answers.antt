@@ -1,4 +1,4 @@
-use Rattle.std.proofs.Common.{◌≡◌, ◌+◌, ◌*◌, ◌<◌, ◌≤◌, ◌∙◌, sym, subst, arith}
+use Rattle.std.proofs.Common.{◌≡◌, ◌*◌, ◌≤◌, ◌∙◌, sym, subst, arith}
 use Rattle.vx_alloc.specs.FreeMaps.{IsLowestAligned}
 use Rattle.vx_alloc.proofs.Runs.{search_begins, search_short, search_unwanted, search_off}
 use Rattle.vx_alloc.proofs.Units.{free_at, aligned_at, none_found, lowest_found}

@@ -1,4 +1,4 @@
-use Rattle.std.proofs.Common.{◌≡◌, ℕ, max, Option, Some, None, IfSome, sym, subst, inr}
+use Rattle.std.proofs.Common.{ℕ, max, Option, Some, None, IfSome, sym, subst, inr}
 use Rattle.vx_alloc.specs.FreeMaps.{FreeMapView, HasNoRun, IsAtLongest, IsStart}
 use Rattle.vx_alloc.proofs.free_map.FreeMap.start.Goals as goal
 
