@@ -1,0 +1,202 @@
+//! The blocks of a directory.
+ghost use Rattle.std.specs.Prelude.{◌≡◌, ◌⊎◌, ◌+◌, ◌^◌, ◌≤◌, ◌<◌, ◌++◌, ◌∷◌, [], length, OnOk, OnErr, IfOk, Err, Some, slice_get, slice_set};
+ghost use Rattle.std.specs.List.{All, sum_by, position_or_len};
+ghost use Rattle.vx_dir.specs.Directories.{empty, entry_room, entry_count, has_room, block_of, block_at, inode_of, HasDistinctNames, with_block, blocks_with, with_entry, add_answer};
+ghost use Rattle.vx_dir.specs.Sizes.{used_by, entry_size};
+
+use crate::block::DirBlock;
+use crate::refusal::DirRefusal;
+use std::alloc::{AllocError, Global};
+use std::marker::Model;
+use vx_base::{DirEntry, DirValue, Geom, Ino, Name};
+
+/// The blocks of a directory, each with its entries.
+#[derive(Debug, Drop)]
+pub struct DirBlocks {
+    block_size: u32,
+    limit: u32,
+    blocks: Vec<DirBlock>,
+}
+
+impl Model for DirBlocks {
+    ghost use Rattle.vx_dir.specs.Directories.{Directory, IsKept};
+
+    ghost Value = { Directory };
+
+    ghost view = { λ a. record { block_size = a.block_size; limit = a.limit; blocks = a.blocks.items } };
+
+    ghost invariant = { λ a. IsKept (record { block_size = a.block_size; limit = a.limit; blocks = a.blocks.items }) };
+}
+
+impl DirBlocks {
+    /// No block yet, for blocks of 1,024 bytes, of which there may be 64.
+    pub fn new(alloc: Global) -> Self
+        ensures { result ≡ empty 1024 64 }
+    {
+        DirBlocks::with(alloc, Geom::layout1())
+    }
+
+    /// No block yet, for the blocks of a layout.
+    pub fn with(alloc: Global, geom: Geom) -> Self
+        requires least { 1024 ≤ geom.block }
+        requires greatest { geom.block ≤ 8192 }
+        requires few { geom.dirs ≤ 64 }
+        ensures { result ≡ empty geom.block geom.dirs }
+    {
+        DirBlocks {
+            block_size: geom.block,
+            limit: geom.dirs,
+            blocks: Vec::new(alloc),
+        }
+    }
+
+    /// The number of blocks.
+    pub fn blocks(&self) -> u32
+        ensures { result ≡ length self.now.blocks }
+    {
+        self.blocks.len() as u32
+    }
+
+    /// The number of entries in all blocks.
+    pub fn entries(&self) -> u32
+        ensures { result ≡ entry_count self.now }
+    {
+        count(self.blocks.as_slice())
+    }
+
+    /// The entries of a block, in the order in which they stand there. Blocks count from 0.
+    pub fn block(&self, i: u32) -> &[DirEntry]
+        requires { i < length self.now.blocks }
+        ensures { slice_get self.now.blocks i ≡ Some result.now }
+    {
+        self.blocks[i as usize].as_slice()
+    }
+
+    /// The inode that a name means, if the name is there.
+    pub fn find(&self, name: &Name) -> Option<Ino>
+        ensures { result ≡ inode_of self.now name.now }
+    {
+        let at = block_of(self.blocks.as_slice(), name);
+        if at < self.blocks.len() {
+            self.blocks[at].inode_of(name)
+        } else {
+            None
+        }
+    }
+
+    /// Adds a last block as it was read; unchanged where memory is short.
+    pub fn push(&mut self, block: &DirValue) -> Result<(), AllocError>
+        requires few { length self.old.blocks < self.old.limit }
+        requires fits { used_by block.now ≤ entry_room self.old.block_size }
+        requires distinct { HasDistinctNames (self.old.blocks ++ block.now ∷ []) }
+        ensures ok { OnOk result (self.new ≡ with_block self.old block.now) }
+        ensures err { OnErr result (self.new ≡ self.old) }
+    {
+        let block = copy_of(*self.blocks.allocator(), block.as_slice())?;
+        self.blocks.push(block)?;
+        Ok(())
+    }
+
+    /// Adds an entry to the first block with room, or else to a new last block, and answers the block's number.
+    /// Unchanged where the name is there, where there may be no further block, and where memory is short.
+    pub fn add(&mut self, name: &Name, ino: Ino) -> Result<u32, DirRefusal>
+        requires { length name.now ≤ 255 }
+        ensures answer { (result ≡ add_answer self.old name.now) ⊎ (result ≡ Err DirRefusal.NoMemory) }
+        ensures added { OnOk result (self.new ≡ with_entry self.old (record { ino = ino; name = name.now })) }
+        ensures unchanged { OnErr result (self.new ≡ self.old) }
+    {
+        if block_of(self.blocks.as_slice(), name) < self.blocks.len() {
+            return Err(DirRefusal::Exist);
+        }
+        let size = 5 + name.as_slice().len() as u32;
+        let at = place_for(self.blocks.as_slice(), self.block_size - 4, size);
+        if at == self.limit as usize {
+            let end = u64::from(self.block_size) * (self.blocks.len() as u64 + 1);
+            return Err(DirRefusal::TooBig { end });
+        }
+        match add_at(&mut self.blocks, at, name, ino) {
+            Ok(()) => Ok(at as u32),
+            Err(_) => Err(DirRefusal::NoMemory),
+        }
+    }
+}
+
+fn count(blocks: &[DirBlock]) -> u32
+    requires few { length blocks.now ≤ 64 }
+    requires fits { All (λ b. used_by b ≤ 8192) blocks.now }
+    ensures { result ≡ sum_by (λ b. length b) blocks.now }
+{
+    let mut count = 0;
+    for block in blocks {
+        count += block.len() as u32;
+    }
+    count
+}
+
+// The first block that holds a name, or the number of blocks.
+fn block_of(blocks: &[DirBlock], name: &Name) -> usize
+    ensures { result ≡ block_of name.now blocks.now }
+{
+    for i in 0..blocks.len() {
+        if blocks[i].holds(name) {
+            return i;
+        }
+    }
+    blocks.len()
+}
+
+// The first block with room for so many bytes, or the number of blocks.
+fn place_for(blocks: &[DirBlock], room: u32, size: u32) -> usize
+    requires { size ≤ room }
+    ensures { result ≡ position_or_len (has_room room size) blocks.now }
+{
+    for i in 0..blocks.len() {
+        if blocks[i].used() <= room - size {
+            return i;
+        }
+    }
+    blocks.len()
+}
+
+fn copy_of(alloc: Global, entries: &[DirEntry]) -> Result<DirBlock, AllocError>
+    requires { used_by entries.now < 2 ^ 32 }
+    ensures { IfOk result (λ block. block ≡ entries.now) }
+{
+    let mut block = DirBlock::new(alloc);
+    for entry in entries {
+        let name = entry.name.clone()?;
+        block.push(DirEntry {
+            ino: entry.ino,
+            name,
+        })?;
+    }
+    Ok(block)
+}
+
+// Adds an entry to block `at`, or to a new last one.
+fn add_at(blocks: &mut Vec<DirBlock>, at: usize, name: &Name, ino: Ino) -> Result<(), AllocError>
+    requires short { length name.now ≤ 255 }
+    requires room { used_by (block_at blocks.old.items at) + 260 ≤ 2 ^ 31 }
+    ensures ok { OnOk result (blocks.new.items ≡ blocks_with blocks.old.items at (record { ino = ino; name = name.now })) }
+    ensures err { OnErr result (blocks.new.items ≡ blocks.old.items) }
+{
+    let name = name.clone()?;
+    let entry = DirEntry { ino, name };
+    if at < blocks.len() {
+        push_at(blocks.as_mut_slice(), at, entry)
+    } else {
+        let mut block = DirBlock::new(*blocks.allocator());
+        block.push(entry)?;
+        blocks.push(block)?;
+        Ok(())
+    }
+}
+
+fn push_at(blocks: &mut [DirBlock], at: usize, entry: DirEntry) -> Result<(), AllocError>
+    requires within { at < length blocks.old }
+    requires room { used_by (block_at blocks.old at) + entry_size entry < 2 ^ 32 }
+    ensures ok { OnOk result (blocks.new ≡ slice_set blocks.old at (block_at blocks.old at ++ entry ∷ [])) }
+    ensures err { OnErr result (blocks.new ≡ blocks.old) }
+{
+    blocks[at].push(entry)
+}
