@@ -1,6 +1,9 @@
 -- The blocks of a directory, and where a name stands and goes.
-use Rattle.std.specs.Prelude.{ℕ, ◌+◌, ◌-◌, ◌*◌, ◌≤◌, Bool, ◌||◌, nat_lt, nat_le, bytes_eq, if◌then◌else◌, List, [], ◌∷◌, ◌++◌, length, Option, Result, Ok, Err, slice_get, slice_set, slice_index_or}
-use Rattle.std.specs.List.{sum_by, count_by, position_or_len, All}
+use Rattle.std.specs.Prelude.{ℕ, ◌+◌, ◌-◌, ◌*◌, ◌≤◌, Bool, ◌||◌, nat_lt, nat_le, bytes_eq, if◌then◌else◌, List, [], ◌∷◌, ◌++◌, length, map, Option, Result, Ok, Err, slice_get, slice_set, slice_index_or}
+use Rattle.std.specs.List.{sum_by, count_by, position_or_len, All, remove, flat_map}
+use Rattle.std.specs.List.Sorted.{IsPermutation, IsSorted}
+use Rattle.std.specs.Cmp.Lexicographic.{slice_cmp}
+use Rattle.std.specs.Ordering.{nat_cmp}
 use Rattle.std.specs.Option.{option_map}
 use Rattle.vx_base.specs.Paths.{FileName}
 use Rattle.vx_base.specs.declared.inode.DirEntry.{DirEntry}
@@ -92,6 +95,26 @@ abbrev pub add_answer : Directory → FileName → Result ℕ DirRefusal
 add_answer d name =
     if is_there d name then Err no.Exist
     else (if has_place d (5 + length name) then Ok (place_for d (5 + length name)) else Err (no.TooBig (d.block_size * (length d.blocks + 1))))
+
+-- ---- an entry less
+
+abbrev pub without_entry : FileName → Entries → Entries
+without_entry name entries = remove entries (place_of name entries)
+
+-- the first block that holds the name is without its entry
+abbrev pub without_name : Directory → FileName → Directory
+without_name d name =
+    let i = block_of name d.blocks in record d { blocks = slice_set d.blocks i (without_entry name (block_at d.blocks i)) }
+
+-- ---- all names
+
+abbrev pub all_entries : Directory → Entries
+all_entries d = flat_map (λ b. b) d.blocks
+
+-- the names of all entries, in the order of their bytes
+pub record AreNames (d : Directory) (names : List FileName) : Type 0 where
+  pub same : IsPermutation (map (λ e. e.name) (all_entries d)) names
+  pub sorted : IsSorted (slice_cmp nat_cmp) names
 
 -- ---- what is always so
 

@@ -1,6 +1,6 @@
 //! One block of a directory.
-ghost use Rattle.std.specs.Prelude.{◌≡◌, ◌+◌, ◌^◌, ◌<◌, ◌≤◌, ◌++◌, ◌∷◌, [], length, OnOk, OnErr, IfOk, sum_by};
-ghost use Rattle.vx_dir.specs.Directories.{place_of, holds, is_named, inode_in};
+ghost use Rattle.std.specs.Prelude.{◌≡◌, ◌+◌, ◌^◌, ◌<◌, ◌≤◌, ◌++◌, ◌∷◌, [], length, OnOk, OnErr, IsTrue, Some};
+ghost use Rattle.vx_dir.specs.Directories.{place_of, holds, is_named, inode_in, without_entry};
 ghost use Rattle.vx_dir.specs.Sizes.{entry_size, used_by};
 
 use std::alloc::{AllocError, Global};
@@ -83,6 +83,18 @@ impl DirBlock {
         self.entries.push(entry)?;
         self.used += size;
         Ok(())
+    }
+
+    /// Removes the entry of a name, and answers its inode.
+    pub fn remove(&mut self, name: &Name) -> Ino
+        requires { IsTrue (holds name.now self.old) }
+        ensures inode { inode_in name.now self.old ≡ Some result }
+        ensures left { self.new ≡ without_entry name.now self.old }
+    {
+        let at = place_of(self.entries.as_slice(), name);
+        let entry = self.entries.remove(at);
+        self.used -= 5 + entry.name.as_slice().len() as u32;
+        entry.ino
     }
 }
 

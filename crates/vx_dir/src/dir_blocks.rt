@@ -1,14 +1,14 @@
 //! The blocks of a directory.
-ghost use Rattle.std.specs.Prelude.{◌≡◌, ◌⊎◌, ◌+◌, ◌^◌, ◌≤◌, ◌<◌, ◌++◌, ◌∷◌, [], length, OnOk, OnErr, IfOk, Err, Some, slice_get, slice_set};
-ghost use Rattle.std.specs.List.{All, sum_by, position_or_len};
-ghost use Rattle.vx_dir.specs.Directories.{empty, entry_room, entry_count, has_room, block_of, block_at, inode_of, HasDistinctNames, with_block, blocks_with, with_entry, add_answer};
+ghost use Rattle.std.specs.Prelude.{◌≡◌, ◌⊎◌, ◌+◌, ◌^◌, ◌≤◌, ◌<◌, ◌++◌, ◌∷◌, [], length, OnOk, OnErr, IfOk, IsTrue, Err, Some, None, map, slice_get, slice_set};
+ghost use Rattle.std.specs.List.{All, flat_map, sum_by, position_or_len};
+ghost use Rattle.vx_dir.specs.Directories.{empty, entry_room, entry_count, has_room, block_of, block_at, inode_of, HasDistinctNames, with_block, blocks_with, with_entry, add_answer, holds, inode_in, without_entry, without_name, AreNames};
 ghost use Rattle.vx_dir.specs.Sizes.{used_by, entry_size};
 
 use crate::block::DirBlock;
-use crate::refusal::DirRefusal;
+use crate::refusal::{DirRefusal, NoEnt};
 use std::alloc::{AllocError, Global};
 use std::marker::Model;
-use vx_base::{DirEntry, DirValue, Geom, Ino, Name};
+use vx_base::{DirEntry, DirValue, Geom, Ino, Name, Names};
 
 /// The blocks of a directory, each with its entries.
 #[derive(Debug, Drop)]
@@ -119,6 +119,70 @@ impl DirBlocks {
             Err(_) => Err(DirRefusal::NoMemory),
         }
     }
+
+    /// Removes a name, and answers the inode that it meant. The blocks stay, also one that has no entry left.
+    /// Unchanged where the name is not there.
+    pub fn remove(&mut self, name: &Name) -> Result<Ino, NoEnt>
+        ensures inode { IfOk result (λ ino. inode_of self.old name.now ≡ Some ino) }
+        ensures missing { OnErr result (inode_of self.old name.now ≡ None) }
+        ensures removed { OnOk result (self.new ≡ without_name self.old name.now) }
+        ensures unchanged { OnErr result (self.new ≡ self.old) }
+    {
+        let at = block_of(self.blocks.as_slice(), name);
+        if at >= self.blocks.len() {
+            return Err(NoEnt);
+        }
+        Ok(remove_at(self.blocks.as_mut_slice(), at, name))
+    }
+
+    /// The names of all entries, in the order of their bytes.
+    pub fn names(&self) -> Result<Names, AllocError>
+        ensures { IfOk result (λ names. AreNames self.now names) }
+    {
+        let alloc = *self.blocks.allocator();
+        let mut names = names_of(alloc, self.blocks.as_slice())?;
+        names.sort_unstable();
+        list_of(alloc, names.as_slice())
+    }
+}
+
+// The names of the blocks' entries, in the order in which they stand there.
+fn names_of(alloc: Global, blocks: &[DirBlock]) -> Result<Vec<Name>, AllocError>
+    ensures { IfOk result (λ names. names.items ≡ map (λ e. e.name) (flat_map (λ b. b) blocks.now)) }
+{
+    let mut names = Vec::new(alloc);
+    for block in blocks {
+        push_names(&mut names, block.as_slice())?;
+    }
+    Ok(names)
+}
+
+fn push_names(names: &mut Vec<Name>, entries: &[DirEntry]) -> Result<(), AllocError>
+    ensures { OnOk result (names.new.items ≡ names.old.items ++ map (λ e. e.name) entries.now) }
+{
+    for entry in entries {
+        names.push(entry.name.clone()?)?;
+    }
+    Ok(())
+}
+
+fn list_of(alloc: Global, names: &[Name]) -> Result<Names, AllocError>
+    ensures { IfOk result (λ list. list ≡ names.now) }
+{
+    let mut list = Names::new(alloc);
+    for name in names {
+        list.push(name.clone()?)?;
+    }
+    Ok(list)
+}
+
+fn remove_at(blocks: &mut [DirBlock], at: usize, name: &Name) -> Ino
+    requires within { at < length blocks.old }
+    requires holds { IsTrue (holds name.now (block_at blocks.old at)) }
+    ensures inode { inode_in name.now (block_at blocks.old at) ≡ Some result }
+    ensures left { blocks.new ≡ slice_set blocks.old at (without_entry name.now (block_at blocks.old at)) }
+{
+    blocks[at].remove(name)
 }
 
 fn count(blocks: &[DirBlock]) -> u32

@@ -6,7 +6,7 @@ mod dir_blocks;
 mod refusal;
 
 pub use dir_blocks::DirBlocks;
-pub use refusal::DirRefusal;
+pub use refusal::{DirRefusal, NoEnt};
 
 #[cfg(test)]
 mod tests;

@@ -12,3 +12,7 @@ pub enum DirRefusal {
     },
     NoMemory,
 }
+
+/// The name is not there.
+#[derive(Clone, Copy, Debug, PartialEq, Eq)]
+pub struct NoEnt;

@@ -16,6 +16,14 @@ fn two_names(rt: HostRuntime) -> Result<(), Fail> {
     assert_eq!(rt; directory.blocks(), 1);
     assert_eq!(rt; directory.entries(), 2);
     assert_eq!(rt; directory.block(0).len(), 2);
+    let names = directory.names()?;
+    assert_eq!(rt; names.len(), 2);
+    assert!(rt; *names.get(0) == a);
+    assert!(rt; *names.get(1) == b);
+    assert!(rt; matches!(directory.remove(&a), Ok(ino) if ino == Ino::new(3)));
+    assert!(rt; directory.remove(&a).is_err());
+    assert!(rt; directory.find(&a).is_none());
+    assert_eq!(rt; directory.blocks(), 1);
     Ok(())
 }
 
