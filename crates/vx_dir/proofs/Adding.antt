@@ -43,7 +43,7 @@ absent blocks name none =
     omega (arith, sum_by-le (λ (b : Entries). count_by (is_named name) b) 0 blocks each)
 
 -- whether an entry counts for a name
-abbrev one_if : Bool → ℕ
+abbrev pub one_if : Bool → ℕ
 one_if b = cond b 1 0
 
 count_set : (blocks : List Entries) (i : ℕ) (e : DirEntry) (q : FileName) → i < length blocks
@@ -72,7 +72,7 @@ distinct_if false q e blocks other distinct none = omega (arith, distinct q)
 pub distinct_with : (blocks : List Entries) (i : ℕ) (e : DirEntry) → HasDistinctNames blocks → length blocks ≤ block_of e.name blocks → HasDistinctNames (blocks_with blocks i e)
 distinct_with blocks i e distinct none q = rw (count_with blocks i e q) (distinct_if (is_named q e) q e blocks refl distinct (absent blocks e.name none))
 
-fits_set : (room : ℕ) (blocks : List Entries) (i : ℕ) (e : DirEntry) → has_room room (entry_size e) (get_or blocks i []) ≡ true → All (λ (b : Entries). used_by b ≤ room) blocks
+pub fits_set : (room : ℕ) (blocks : List Entries) (i : ℕ) (e : DirEntry) → has_room room (entry_size e) (get_or blocks i []) ≡ true → All (λ (b : Entries). used_by b ≤ room) blocks
     → All (λ (b : Entries). used_by b ≤ room) (set blocks i (get_or blocks i [] ++ e ∷ []))
 fits_set room blocks i e has all =
     let within : used_by (get_or blocks i []) + entry_size e ≤ room = grind (arith, nat_tests) in

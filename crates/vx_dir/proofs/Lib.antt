@@ -1,3 +1,4 @@
 pub mod Adding
+pub mod Packing
 pub mod Places
 pub mod Removing

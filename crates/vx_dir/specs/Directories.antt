@@ -1,9 +1,10 @@
 -- The blocks of a directory, and where a name stands and goes.
-use Rattle.std.specs.Prelude.{ℕ, ◌+◌, ◌-◌, ◌*◌, ◌≤◌, Bool, ◌||◌, nat_lt, nat_le, bytes_eq, if◌then◌else◌, List, [], ◌∷◌, ◌++◌, length, map, Option, Result, Ok, Err, slice_get, slice_set, slice_index_or}
-use Rattle.std.specs.List.{sum_by, count_by, position_or_len, All, remove, flat_map}
+use Rattle.std.specs.Prelude.{◌≡◌, ℕ, ◌+◌, ◌-◌, ◌*◌, ◌≤◌, Bool, ◌||◌, nat_lt, nat_le, bytes_eq, if◌then◌else◌, List, [], ◌∷◌, ◌++◌, length, map, Option, Result, Ok, Err, slice_get, slice_set, slice_index_or}
+use Rattle.std.specs.List.{sum_by, count_by, position_or_len, All, remove, flat_map, fold}
 use Rattle.std.specs.List.Sorted.{IsPermutation, IsSorted}
 use Rattle.std.specs.Cmp.Lexicographic.{slice_cmp}
 use Rattle.std.specs.Ordering.{nat_cmp}
+use Rattle.std.specs.declared.cmp.Ordering.{Ordering}
 use Rattle.std.specs.Option.{option_map}
 use Rattle.vx_base.specs.Paths.{FileName}
 use Rattle.vx_base.specs.declared.inode.DirEntry.{DirEntry}
@@ -115,6 +116,34 @@ all_entries d = flat_map (λ b. b) d.blocks
 pub record AreNames (d : Directory) (names : List FileName) : Type 0 where
   pub same : IsPermutation (map (λ e. e.name) (all_entries d)) names
   pub sorted : IsSorted (slice_cmp nat_cmp) names
+
+-- ---- packing
+
+-- the last block if it has room, or else the number of blocks; with no block yet both are 0
+abbrev pub last_place : ℕ → ℕ → List Entries → ℕ
+last_place room size blocks = if has_room room size (block_at blocks (length blocks - 1)) then length blocks - 1 else length blocks
+
+-- an entry behind the last one, or in a new block where it does not fit
+abbrev pub put_last : ℕ → List Entries → DirEntry → List Entries
+put_last room blocks e = blocks_with blocks (last_place room (entry_size e) blocks) e
+
+-- the blocks of these entries, each put behind the last
+abbrev pub packed : ℕ → Entries → List Entries
+packed room entries = fold (put_last room) [] entries
+
+abbrev pub by_name : DirEntry → DirEntry → Ordering
+by_name a b = slice_cmp nat_cmp a.name b.name
+
+-- the directory with these blocks, if they are fewer than its own
+abbrev pub with_fewer : Directory → List Entries → Directory
+with_fewer d blocks = if nat_lt (length blocks) (length d.blocks) then record d { blocks = blocks } else d
+
+-- the directory packed in the order of the names' bytes, or as it was where that saves no block
+pub record IsTightened (before after : Directory) : Type 0 where
+  pub entries : Entries
+  pub same : IsPermutation (all_entries before) entries
+  pub sorted : IsSorted by_name entries
+  pub blocks : after ≡ with_fewer before (packed (entry_room before.block_size) entries)
 
 -- ---- what is always so
 

@@ -1,7 +1,8 @@
 //! The blocks of a directory.
 ghost use Rattle.std.specs.Prelude.{◌≡◌, ◌⊎◌, ◌+◌, ◌^◌, ◌≤◌, ◌<◌, ◌++◌, ◌∷◌, [], length, OnOk, OnErr, IfOk, IsTrue, Err, Some, None, map, slice_get, slice_set};
 ghost use Rattle.std.specs.List.{All, flat_map, sum_by, position_or_len};
-ghost use Rattle.vx_dir.specs.Directories.{empty, entry_room, entry_count, has_room, block_of, block_at, inode_of, HasDistinctNames, with_block, blocks_with, with_entry, add_answer, holds, inode_in, without_entry, without_name, AreNames};
+ghost use Rattle.std.specs.List.Sorted.{IsPermutation, IsSorted};
+ghost use Rattle.vx_dir.specs.Directories.{empty, entry_room, entry_count, has_room, block_of, block_at, inode_of, HasDistinctNames, with_block, blocks_with, with_entry, add_answer, holds, inode_in, without_entry, without_name, AreNames, by_name, last_place, put_last, packed, IsTightened};
 ghost use Rattle.vx_dir.specs.Sizes.{used_by, entry_size};
 
 use crate::block::DirBlock;
@@ -144,6 +145,95 @@ impl DirBlocks {
         names.sort_unstable();
         list_of(alloc, names.as_slice())
     }
+
+    /// Packs the entries in the order of their names' bytes, each behind the last, where that takes fewer blocks, and
+    /// answers the number of blocks. Unchanged where it does not, and where memory is short.
+    pub fn tighten(&mut self) -> Result<u32, AllocError>
+        ensures ok { OnOk result (IsTightened self.old self.new) }
+        ensures count { IfOk result (λ count. count ≡ length self.new.blocks) }
+        ensures err { OnErr result (self.new ≡ self.old) }
+    {
+        let alloc = *self.blocks.allocator();
+        let entries = sorted_entries(alloc, self.blocks.as_slice())?;
+        let packed = pack(alloc, self.block_size - 4, entries.as_slice())?;
+        if packed.len() < self.blocks.len() {
+            self.blocks = packed;
+        }
+        Ok(self.blocks.len() as u32)
+    }
+}
+
+// Copies of the blocks' entries, in the order of their names' bytes.
+fn sorted_entries(alloc: Global, blocks: &[DirBlock]) -> Result<Vec<DirEntry>, AllocError>
+    ensures same { IfOk result (λ entries. IsPermutation (flat_map (λ b. b) blocks.now) entries.items) }
+    ensures sorted { IfOk result (λ entries. IsSorted by_name entries.items) }
+{
+    let mut entries = entries_of(alloc, blocks)?;
+    entries.sort_unstable_by(|a, b| a.name.cmp(&b.name));
+    Ok(entries)
+}
+
+fn entries_of(alloc: Global, blocks: &[DirBlock]) -> Result<Vec<DirEntry>, AllocError>
+    ensures { IfOk result (λ entries. entries.items ≡ flat_map (λ b. b) blocks.now) }
+{
+    let mut entries = Vec::new(alloc);
+    for block in blocks {
+        push_entries(&mut entries, block.as_slice())?;
+    }
+    Ok(entries)
+}
+
+fn push_entries(entries: &mut Vec<DirEntry>, more: &[DirEntry]) -> Result<(), AllocError>
+    ensures { OnOk result (entries.new.items ≡ entries.old.items ++ more.now) }
+{
+    for entry in more {
+        let name = entry.name.clone()?;
+        entries.push(DirEntry {
+            ino: entry.ino,
+            name,
+        })?;
+    }
+    Ok(())
+}
+
+// The blocks of these entries, each put behind the last.
+fn pack(alloc: Global, room: u32, entries: &[DirEntry]) -> Result<Vec<DirBlock>, AllocError>
+    requires room { room ≤ 8192 }
+    requires fits { All (λ e. entry_size e ≤ room) entries.now }
+    ensures { IfOk result (λ blocks. blocks.items ≡ packed room entries.now) }
+{
+    let mut blocks = Vec::new(alloc);
+    for entry in entries {
+        put_last(&mut blocks, room, entry)?;
+    }
+    Ok(blocks)
+}
+
+fn put_last(blocks: &mut Vec<DirBlock>, room: u32, entry: &DirEntry) -> Result<(), AllocError>
+    requires room { room ≤ 8192 }
+    requires fits { All (λ b. used_by b ≤ room) blocks.old.items }
+    requires size { entry_size entry.now ≤ room }
+    ensures { OnOk result (blocks.new.items ≡ put_last room blocks.old.items entry.now) }
+{
+    let size = 5 + entry.name.as_slice().len() as u32;
+    let at = last_place(blocks.as_slice(), room, size);
+    add_at(blocks, at, &entry.name, entry.ino)
+}
+
+// The last block if it has room for so many bytes, or else the number of blocks.
+fn last_place(blocks: &[DirBlock], room: u32, size: u32) -> usize
+    requires { size ≤ room }
+    ensures { result ≡ last_place room size blocks.now }
+{
+    if blocks.is_empty() {
+        return 0;
+    }
+    let last = blocks.len() - 1;
+    if blocks[last].used() <= room - size {
+        last
+    } else {
+        blocks.len()
+    }
 }
 
 // The names of the blocks' entries, in the order in which they stand there.
@@ -239,8 +329,7 @@ fn copy_of(alloc: Global, entries: &[DirEntry]) -> Result<DirBlock, AllocError>
 
 // Adds an entry to block `at`, or to a new last one.
 fn add_at(blocks: &mut Vec<DirBlock>, at: usize, name: &Name, ino: Ino) -> Result<(), AllocError>
-    requires short { length name.now ≤ 255 }
-    requires room { used_by (block_at blocks.old.items at) + 260 ≤ 2 ^ 31 }
+    requires { used_by (block_at blocks.old.items at) + (5 + length name.now) < 2 ^ 32 }
     ensures ok { OnOk result (blocks.new.items ≡ blocks_with blocks.old.items at (record { ino = ino; name = name.now })) }
     ensures err { OnErr result (blocks.new.items ≡ blocks.old.items) }
 {

@@ -41,3 +41,51 @@ fn a_block_as_read(rt: HostRuntime) -> Result<(), Fail> {
     assert_eq!(rt; directory.entries(), 1);
     Ok(())
 }
+
+#[test]
+fn packed_into_one(rt: HostRuntime) -> Result<(), Fail> {
+    let a = Name::from_slice(rt.alloc(), b"a")?;
+    let b = Name::from_slice(rt.alloc(), b"b")?;
+    let x = Name::from_slice(rt.alloc(), &[0x78; 255])?;
+    let y = Name::from_slice(rt.alloc(), &[0x79; 255])?;
+    let z = Name::from_slice(rt.alloc(), &[0x7a; 255])?;
+    let wide = Name::from_slice(rt.alloc(), &[0x77; 255])?;
+    let mut directory = DirBlocks::new(rt.alloc());
+    assert!(rt; matches!(directory.add(&b, Ino::new(3)), Ok(0)));
+    assert!(rt; matches!(directory.add(&x, Ino::new(4)), Ok(0)));
+    assert!(rt; matches!(directory.add(&y, Ino::new(5)), Ok(0)));
+    assert!(rt; matches!(directory.add(&z, Ino::new(6)), Ok(0)));
+    assert!(rt; matches!(directory.add(&wide, Ino::new(7)), Ok(1)));
+    assert!(rt; matches!(directory.add(&a, Ino::new(8)), Ok(0)));
+    assert!(rt; matches!(directory.tighten(), Ok(2)));
+    assert!(rt; directory.remove(&x).is_ok());
+    assert!(rt; directory.remove(&y).is_ok());
+    assert!(rt; directory.remove(&z).is_ok());
+    assert!(rt; directory.remove(&a).is_ok());
+    assert_eq!(rt; directory.blocks(), 2);
+    assert!(rt; matches!(directory.tighten(), Ok(1)));
+    assert!(rt; directory.find(&b) == Some(Ino::new(3)));
+    assert!(rt; directory.find(&wide) == Some(Ino::new(7)));
+    assert_eq!(rt; directory.entries(), 2);
+    Ok(())
+}
+
+#[test]
+fn no_further_block(rt: HostRuntime) -> Result<(), Fail> {
+    let mut directory = DirBlocks::with(
+        rt.alloc(),
+        Geom {
+            dirs: 1,
+            ..Geom::layout1()
+        },
+    );
+    for byte in 0..3 {
+        let name = Name::from_slice(rt.alloc(), &[byte; 255])?;
+        assert!(rt; matches!(directory.add(&name, Ino::new(3)), Ok(0)));
+    }
+    let name = Name::from_slice(rt.alloc(), &[3; 255])?;
+    let refused = directory.add(&name, Ino::new(3));
+    assert!(rt; matches!(refused, Err(DirRefusal::TooBig { end: 2048 })));
+    assert_eq!(rt; directory.entries(), 3);
+    Ok(())
+}
