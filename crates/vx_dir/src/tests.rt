@@ -49,23 +49,22 @@ fn packed_into_one(rt: HostRuntime) -> Result<(), Fail> {
     let x = Name::from_slice(rt.alloc(), &[0x78; 255])?;
     let y = Name::from_slice(rt.alloc(), &[0x79; 255])?;
     let z = Name::from_slice(rt.alloc(), &[0x7a; 255])?;
-    let wide = Name::from_slice(rt.alloc(), &[0x77; 255])?;
+    let rest = Name::from_slice(rt.alloc(), &[0x72; 235])?;
     let mut directory = DirBlocks::new(rt.alloc());
-    assert!(rt; matches!(directory.add(&b, Ino::new(3)), Ok(0)));
-    assert!(rt; matches!(directory.add(&x, Ino::new(4)), Ok(0)));
-    assert!(rt; matches!(directory.add(&y, Ino::new(5)), Ok(0)));
-    assert!(rt; matches!(directory.add(&z, Ino::new(6)), Ok(0)));
-    assert!(rt; matches!(directory.add(&wide, Ino::new(7)), Ok(1)));
-    assert!(rt; matches!(directory.add(&a, Ino::new(8)), Ok(0)));
+    // 1,020 bytes of entries, and then one byte has no room.
+    for name in [&x, &y, &z, &rest] {
+        assert!(rt; matches!(directory.add(name, Ino::new(4)), Ok(0)));
+    }
+    assert!(rt; matches!(directory.add(&b, Ino::new(3)), Ok(1)));
     assert!(rt; matches!(directory.tighten(), Ok(2)));
-    assert!(rt; directory.remove(&x).is_ok());
-    assert!(rt; directory.remove(&y).is_ok());
-    assert!(rt; directory.remove(&z).is_ok());
-    assert!(rt; directory.remove(&a).is_ok());
+    for name in [&x, &y, &z, &rest] {
+        assert!(rt; directory.remove(name).is_ok());
+    }
+    assert!(rt; matches!(directory.add(&a, Ino::new(5)), Ok(0)));
     assert_eq!(rt; directory.blocks(), 2);
     assert!(rt; matches!(directory.tighten(), Ok(1)));
+    assert!(rt; directory.find(&a) == Some(Ino::new(5)));
     assert!(rt; directory.find(&b) == Some(Ino::new(3)));
-    assert!(rt; directory.find(&wide) == Some(Ino::new(7)));
     assert_eq!(rt; directory.entries(), 2);
     Ok(())
 }
