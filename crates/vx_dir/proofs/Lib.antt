@@ -2,3 +2,4 @@ pub mod Adding
 pub mod Packing
 pub mod Places
 pub mod Removing
+pub mod Sorting

@@ -66,7 +66,7 @@ count_fold room (e ∷ es) blocks q =
     let both = sum_by-cons (λ x. cond (is_named q x) 1 0) e es in
     omega (arith, rest, here, both)
 
-count_all : (blocks : List Entries) (q : FileName) → count_by (is_named q) (flat_map (λ (b : Entries). b) blocks) ≡ name_count q blocks
+pub count_all : (blocks : List Entries) (q : FileName) → count_by (is_named q) (flat_map (λ (b : Entries). b) blocks) ≡ name_count q blocks
 count_all [] q = refl
 count_all (b ∷ bs) q =
     let parts = sum_by-append (λ x. cond (is_named q x) 1 0) b (flat_map (λ (x : Entries). x) bs) in

@@ -3,9 +3,11 @@
 
 mod block;
 mod dir_blocks;
+mod laws;
 mod refusal;
 
 pub use dir_blocks::DirBlocks;
+pub use laws::one_tightening;
 pub use refusal::{DirRefusal, NoEnt};
 
 #[cfg(test)]
