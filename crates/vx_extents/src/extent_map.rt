@@ -5,6 +5,7 @@ ghost use Rattle.vx_extents.specs.Extents.{extents_limit, chain_len, places, exp
 
 use std::alloc::{AllocError, Global};
 use std::marker::Model;
+use std::mem;
 use vx_base::{Block, Extent, Geom, Kind, Page};
 
 /// The block and the kind of each page of a file that has one.
@@ -81,6 +82,14 @@ impl ExtentMap {
         ensures { self.new ≡ record self.old { pages = filter (λ m. nat_lt m.page p) self.old.pages } }
     {
         cut_extents(&mut self.extents, p.get());
+    }
+
+    /// Exchanges two maps, with the memory that each has.
+    pub fn replace_all(&mut self, with: &mut ExtentMap)
+        ensures taken { self.new ≡ with.old }
+        ensures given { with.new ≡ self.old }
+    {
+        mem::swap(self, with);
     }
 }
 

@@ -9,6 +9,10 @@ fn an_empty_map(rt: HostRuntime) -> Result<(), Fail> {
     map.reserve(2)?;
     assert_eq!(rt; map.extents(), 0);
     assert!(rt; map.find(Page::new(0)).is_none());
+    map.cut(Page::new(0));
+    let mut other = ExtentMap::new(rt.alloc());
+    map.replace_all(&mut other);
+    assert_eq!(rt; other.extents(), 0);
     Ok(())
 }
 
