@@ -9,8 +9,9 @@ use Rattle.std.proofs.lemmas.List.Elements.{All-set, All-push, All-from_get_or}
 use Rattle.vx_base.specs.Paths.{FileName}
 use Rattle.vx_base.specs.declared.inode.DirEntry.{DirEntry}
 use Rattle.vx_dir.specs.Sizes.{Entries, entry_size, used_by}
-use Rattle.vx_dir.specs.Directories.{Directory, IsKept, holds, block_of, is_named, name_count, HasDistinctNames, has_room, entry_room, place_for, blocks_with, with_entry, add_answer}
+use Rattle.vx_dir.specs.Directories.{Directory, IsKept, holds, block_of, is_named, name_count, HasDistinctNames, IsShort, has_room, entry_room, place_for, blocks_with, with_entry, add_answer}
 use Rattle.vx_dir.specs.declared.refusal.DirRefusal.TheVariants as no
+use Rattle.vx_dir.proofs.Each.{each_with}
 use Rattle.vx_dir.proofs.Places.{position_within, count_none}
 
 -- ---- the answer
@@ -113,5 +114,6 @@ module _ (d : Directory) (kept : IsKept d) (e : DirEntry) (short : length e.name
     few_blocks = kept.few_blocks;
     within = within_with;
     fits = fits_with;
+    short = each_with IsShort d.blocks (place_for d (entry_size e)) e short kept.short;
     distinct = distinct_with d.blocks (place_for d (entry_size e)) e kept.distinct new_name;
   }

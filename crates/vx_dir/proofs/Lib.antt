@@ -1,4 +1,5 @@
 pub mod Adding
+pub mod Each
 pub mod Packing
 pub mod Places
 pub mod Removing

@@ -10,7 +10,8 @@ use Rattle.std.proofs.lemmas.List.Elements.{All-push, All-nil, All-append, All-h
 use Rattle.vx_base.specs.Paths.{FileName}
 use Rattle.vx_base.specs.declared.inode.DirEntry.{DirEntry}
 use Rattle.vx_dir.specs.Sizes.{Entries, entry_size, used_by}
-use Rattle.vx_dir.specs.Directories.{Directory, IsKept, is_named, name_count, HasDistinctNames, has_room, entry_room, last_place, put_last, packed, all_entries}
+use Rattle.vx_dir.specs.Directories.{Directory, IsKept, IsShort, is_named, name_count, HasDistinctNames, has_room, entry_room, last_place, put_last, packed, all_entries}
+use Rattle.vx_dir.proofs.Each.{InAll, each_packed, each_flat}
 use Rattle.vx_dir.proofs.Adding.{count_with, fits_set}
 
 abbrev pub Fits : ℕ → List Entries → Type 0
@@ -89,5 +90,6 @@ kept_packed d es kept same fewer = record {
   few_blocks = kept.few_blocks;
   within = let w : length d.blocks ≤ d.limit = kept.within in omega arith;
   fits = fits_packed (entry_room d.block_size) es (All-permutation (λ e. entry_size e ≤ entry_room d.block_size) (all_entries d) es same (sizes_all (entry_room d.block_size) d.blocks kept.fits));
+  short = each_packed IsShort (entry_room d.block_size) es [] (All-permutation IsShort (all_entries d) es same (each_flat IsShort d.blocks kept.short)) (All-nil (InAll IsShort));
   distinct = distinct_packed (entry_room d.block_size) d.blocks es same kept.distinct;
 }

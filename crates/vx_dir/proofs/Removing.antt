@@ -7,7 +7,8 @@ use Rattle.std.proofs.lemmas.List.Elements.{All-set}
 use Rattle.vx_base.specs.Paths.{FileName}
 use Rattle.vx_base.specs.declared.inode.DirEntry.{DirEntry}
 use Rattle.vx_dir.specs.Sizes.{Entries, entry_size, used_by}
-use Rattle.vx_dir.specs.Directories.{Directory, IsKept, holds, block_of, is_named, place_of, HasDistinctNames, entry_room, without_entry}
+use Rattle.vx_dir.proofs.Each.{each_without}
+use Rattle.vx_dir.specs.Directories.{IsShort, Directory, IsKept, holds, block_of, is_named, place_of, HasDistinctNames, entry_room, without_entry}
 
 nobody : DirEntry
 nobody = record { ino = 0; name = [] }
@@ -44,5 +45,6 @@ module _ (d : Directory) (kept : IsKept d) (name : FileName) (i : ℕ) (is : i �
     few_blocks = kept.few_blocks;
     within = let w : length d.blocks ≤ d.limit = kept.within in omega (arith, length-set d.blocks i (without_entry name (get_or d.blocks i [])));
     fits = fits_without;
+    short = each_without IsShort name d.blocks i there kept.short;
     distinct = distinct_without;
   }

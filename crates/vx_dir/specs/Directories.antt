@@ -71,6 +71,12 @@ name_count name blocks = sum_by (λ b. count_by (is_named name) b) blocks
 abbrev pub HasDistinctNames : List Entries → Type 0
 HasDistinctNames blocks = (name : FileName) → name_count name blocks ≤ 1
 
+abbrev pub IsShort : DirEntry → Type 0
+IsShort e = length e.name ≤ 255
+
+abbrev pub HasShortNames : Entries → Type 0
+HasShortNames entries = All IsShort entries
+
 -- ---- a further block and a further entry
 
 abbrev pub with_block : Directory → Entries → Directory
@@ -153,4 +159,5 @@ pub record IsKept (d : Directory) : Type 0 where
   pub few_blocks : d.limit ≤ 64
   pub within : length d.blocks ≤ d.limit
   pub fits : All (λ b. used_by b ≤ entry_room d.block_size) d.blocks
+  pub short : All HasShortNames d.blocks
   pub distinct : HasDistinctNames d.blocks

@@ -2,7 +2,7 @@
 ghost use Rattle.std.specs.Prelude.{◌≡◌, ◌⊎◌, ◌+◌, ◌^◌, ◌≤◌, ◌<◌, ◌++◌, ◌∷◌, [], length, OnOk, OnErr, IfOk, IsTrue, Err, Some, None, map, slice_get, slice_set};
 ghost use Rattle.std.specs.List.{All, flat_map, sum_by, position_or_len};
 ghost use Rattle.std.specs.List.Sorted.{IsPermutation, IsSorted};
-ghost use Rattle.vx_dir.specs.Directories.{empty, entry_room, entry_count, has_room, block_of, block_at, inode_of, HasDistinctNames, with_block, blocks_with, with_entry, add_answer, holds, inode_in, without_entry, without_name, AreNames, by_name, last_place, put_last, packed, IsTightened};
+ghost use Rattle.vx_dir.specs.Directories.{empty, entry_room, entry_count, has_room, block_of, block_at, inode_of, HasDistinctNames, HasShortNames, with_block, blocks_with, with_entry, add_answer, holds, inode_in, without_entry, without_name, AreNames, by_name, last_place, put_last, packed, IsTightened};
 ghost use Rattle.vx_dir.specs.Sizes.{used_by, entry_size};
 
 use crate::block::DirBlock;
@@ -68,7 +68,9 @@ impl DirBlocks {
     /// The entries of a block, in the order in which they stand there. Blocks count from 0.
     pub fn block(&self, i: u32) -> &[DirEntry]
         requires { i < length self.now.blocks }
-        ensures { slice_get self.now.blocks i ≡ Some result.now }
+        ensures entries { slice_get self.now.blocks i ≡ Some result.now }
+        ensures fits { used_by result.now ≤ entry_room self.now.block_size }
+        ensures short { HasShortNames result.now }
     {
         self.blocks[i as usize].as_slice()
     }
@@ -89,6 +91,7 @@ impl DirBlocks {
     pub fn push(&mut self, block: &DirValue) -> Result<(), AllocError>
         requires few { length self.old.blocks < self.old.limit }
         requires fits { used_by block.now ≤ entry_room self.old.block_size }
+        requires short { HasShortNames block.now }
         requires distinct { HasDistinctNames (self.old.blocks ++ block.now ∷ []) }
         ensures ok { OnOk result (self.new ≡ with_block self.old block.now) }
         ensures err { OnErr result (self.new ≡ self.old) }
