@@ -2,10 +2,10 @@
 use Rattle.std.proofs.Common.{◌≡◌, ℕ, zero, suc, ◌+◌, ◌-◌, ◌<◌, ◌≤◌, true, false, List, [], ◌∷◌, ◌++◌, length, Some, refl, ap, ◌∙◌, arith}
 use Rattle.std.specs.Prelude.{nat_eq}
 use Rattle.std.proofs.lemmas.Bool.Decides.{nat_tests}
-use Rattle.vx_base.specs.declared.inode.Extent.{Extent}
 use Rattle.vx_base.specs.declared.kind.Kind.{Kind}
 use Rattle.vx_base.specs.declared.kind.Kind.TheVariants.{Data, Reserved}
-use Rattle.vx_extents.specs.Extents.{Mapped, mapped_at, same_kind, follows, begun_after, extent_count, run, expand, IsExtent, AreMaximal}
+use Rattle.vx_extents.specs.declared.stretch.Stretch.{Stretch}
+use Rattle.vx_extents.specs.Extents.{Mapped, mapped_at, same_kind, follows, begun_after, extent_count, run, expand, IsStretch, AreMaximal}
 
 kind_itself : (k : Kind) → same_kind k k ≡ true
 kind_itself Data = refl
@@ -70,24 +70,20 @@ next_begins : (m : Mapped) (n page block : ℕ) (kind : Kind) (rest : List Mappe
 next_begins m zero page block kind rest new some = absurd (omega arith)
 next_begins m (suc n) page block kind rest new some = rw new refl
 
-first_some : (extents : List Extent) (e : Extent) → AreMaximal (e ∷ extents) → IsExtent e
-first_some [] e all = all
-first_some (f ∷ extents) e all = all.0
-
-pub count_is_length : (extents : List Extent) → AreMaximal extents → extent_count (expand extents) ≡ length extents
+pub count_is_length : (extents : List Stretch) → AreMaximal extents → extent_count (expand extents) ≡ length extents
 count_is_length [] all = refl
-count_is_length (e ∷ []) all = count_step e.len e.page e.start e.kind (e.page + (e.len - 1)) (e.start + (e.len - 1)) [] (omega (arith, all.some)) (omega (arith, all.some)) all.some
+count_is_length (e ∷ []) all = count_step (suc e.more) e.page e.start e.kind (e.page + e.more) (e.start + e.more) [] (omega arith) (omega arith) (omega arith)
 count_is_length (e ∷ f ∷ extents) all =
-    let last : Mapped = record { page = e.page + (e.len - 1); block = e.start + (e.len - 1); kind = e.kind } in
-    let end_page : last.page + 1 ≡ e.page + e.len = omega (arith, all.0.some) in
-    let end_block : last.block + 1 ≡ e.start + e.len = omega (arith, all.0.some) in
+    let last : Mapped = record { page = e.page + e.more; block = e.start + e.more; kind = e.kind } in
+    let end_page : last.page + 1 ≡ e.page + suc e.more = omega arith in
+    let end_block : last.block + 1 ≡ e.start + suc e.more = omega arith in
     let apart : follows last (record { page = f.page; block = f.start; kind = f.kind }) ≡ false = rw (end_page, end_block) all.1.apart in
     let counted : extent_count (expand (e ∷ f ∷ extents)) ≡ 1 + length (f ∷ extents) =
-    count_step e.len e.page e.start e.kind last.page last.block (expand (f ∷ extents)) end_page end_block all.0.some
-    ∙ ap (λ (c : ℕ). 1 + c) (next_begins last f.len f.page f.start f.kind (expand extents) apart (first_some extents f all.2).some)
+    count_step (suc e.more) e.page e.start e.kind last.page last.block (expand (f ∷ extents)) end_page end_block (omega arith)
+    ∙ ap (λ (c : ℕ). 1 + c) (next_begins last (suc f.more) f.page f.start f.kind (expand extents) apart (omega arith))
     ∙ ap (λ (c : ℕ). 1 + c) (count_is_length (f ∷ extents) all.2) in
     omega (arith, counted)
 
-pub rest_maximal : (extents : List Extent) (e : Extent) → AreMaximal (e ∷ extents) → AreMaximal extents
+pub rest_maximal : (extents : List Stretch) (e : Stretch) → AreMaximal (e ∷ extents) → AreMaximal extents
 rest_maximal [] e all = tt
 rest_maximal (f ∷ extents) e all = all.2

@@ -1,10 +1,11 @@
 -- The pages of a file, and the extents that they stand in.
-use Rattle.std.specs.Prelude.{◌≡◌, ℕ, zero, suc, ◌+◌, ◌-◌, ◌*◌, ◌/◌, ◌^◌, ◌<◌, ◌≤◌, Bool, true, false, ◌&&◌, ◌==◌, nat_le, nat_lt, min, if◌then◌else◌, List, [], ◌∷◌, ◌++◌, length, Option, Some, None}
+use Rattle.std.specs.Prelude.{◌≡◌, ℕ, zero, suc, ◌+◌, ◌-◌, ◌*◌, ◌/◌, ◌^◌, ◌<◌, ◌≤◌, Bool, true, false, ◌&&◌, ◌==◌, nat_le, nat_lt, min, if◌then◌else◌, List, [], ◌∷◌, ◌++◌, length, Option, Some, None, Result, Ok, Err}
 use Rattle.std.specs.Int.{div_ceil}
 use Rattle.vx_base.specs.declared.geom.Geom.{Geom}
-use Rattle.vx_base.specs.declared.inode.Extent.{Extent}
 use Rattle.vx_base.specs.declared.kind.Kind.{Kind}
 use Rattle.vx_base.specs.declared.kind.Kind.TheVariants.{Data, Reserved}
+use Rattle.vx_extents.specs.declared.extent_map.MapFull.{MapFull}
+use Rattle.vx_extents.specs.declared.stretch.Stretch.{Stretch}
 
 -- a page that has a block
 pub record Mapped : Type 0 where
@@ -34,6 +35,11 @@ abbrev pub mapped_at : List Mapped → ℕ → Option (ℕ × Kind)
 mapped_at [] p = None
 mapped_at (m ∷ pages) p = if m.page == p then Some (m.block, m.kind) else mapped_at pages p
 
+-- the pages with a further one, rising
+abbrev pub with_page : Mapped → List Mapped → List Mapped
+with_page m [] = m ∷ []
+with_page m (n ∷ pages) = if nat_lt n.page m.page then n ∷ with_page m pages else m ∷ n ∷ pages
+
 -- ---- extents
 
 abbrev pub same_kind : Kind → Kind → Bool
@@ -55,6 +61,18 @@ abbrev pub extent_count : List Mapped → ℕ
 extent_count [] = 0
 extent_count (m ∷ pages) = 1 + begun_after m pages
 
+-- the map with a further page, for which one of the adds is used up
+abbrev pub with_add : ExtentMapView → ℕ → ℕ → Kind → ExtentMapView
+with_add map p b kind = record map { pages = with_page (record { page = p; block = b; kind = kind }) map.pages; reserved = map.reserved - 1 }
+
+-- refused where the map with the page has more extents than it may have
+abbrev pub allowed : ℕ → ℕ → Result (Unit {0}) MapFull
+allowed limit extents = if nat_le extents limit then Ok tt else Err (record { extents = extents })
+
+-- what a further page is answered
+abbrev pub add_answer : ExtentMapView → ℕ → ℕ → Kind → Result (Unit {0}) MapFull
+add_answer map p b kind = allowed map.limit (extent_count (with_page (record { page = p; block = b; kind = kind }) map.pages))
+
 -- ---- as they are stored
 
 -- so many pages from this one on, in the blocks from this one on
@@ -62,43 +80,63 @@ abbrev pub run : ℕ → ℕ → ℕ → Kind → List Mapped
 run zero page block kind = []
 run (suc n) page block kind = record { page = page; block = block; kind = kind } ∷ run n (page + 1) (block + 1) kind
 
-abbrev pub expand : List Extent → List Mapped
+abbrev pub expand : List Stretch → List Mapped
 expand [] = []
-expand (e ∷ extents) = run e.len e.page e.start e.kind ++ expand extents
+expand (e ∷ extents) = run (suc e.more) e.page e.start e.kind ++ expand extents
 
-abbrev pub touches : Extent → Extent → Bool
-touches e f = (e.page + e.len == f.page) && ((e.start + e.len == f.start) && same_kind e.kind f.kind)
+abbrev pub touches : Stretch → Stretch → Bool
+touches e f = (e.page + suc e.more == f.page) && ((e.start + suc e.more == f.start) && same_kind e.kind f.kind)
+
+-- an extent before others, as one with the first of them where they touch
+abbrev pub joined : Stretch → List Stretch → List Stretch
+joined e [] = e ∷ []
+joined e (f ∷ extents) = if touches e f then record e { more = e.more + suc f.more } ∷ extents else e ∷ f ∷ extents
+
+-- the extents with a further one, at its place
+abbrev pub added : Stretch → List Stretch → List Stretch
+added x [] = x ∷ []
+added x (e ∷ extents) = if nat_lt e.page x.page then joined e (added x extents) else joined x (e ∷ extents)
+
+-- the extent at a place is one with the next where they touch
+abbrev pub joined_at : ℕ → List Stretch → List Stretch
+joined_at n [] = []
+joined_at zero (e ∷ extents) = joined e extents
+joined_at (suc n) (e ∷ extents) = e ∷ joined_at n extents
 
 -- what is left of an extent below a page
-abbrev pub shortened : ℕ → Extent → Extent
-shortened p e = record e { len = min e.len (p - e.page) }
+abbrev pub shortened : ℕ → Stretch → Stretch
+shortened p e = record e { more = min e.more (p - e.page - 1) }
 
 -- how many extents, from the first on, begin before a page
-abbrev pub begun_before : ℕ → List Extent → ℕ
+abbrev pub begun_before : ℕ → List Stretch → ℕ
 begun_before p [] = zero
 begun_before p (e ∷ extents) = if nat_lt e.page p then suc (begun_before p extents) else zero
 
 -- the extents without the pages from this one on
-abbrev pub cut_before : ℕ → List Extent → List Extent
+abbrev pub cut_before : ℕ → List Stretch → List Stretch
 cut_before p [] = []
 cut_before p (e ∷ extents) = if nat_lt e.page p then shortened p e ∷ cut_before p extents else []
 
-pub record IsExtent (e : Extent) : Type 0 where
-  pub some : 1 ≤ e.len
-  pub pages : e.page + e.len ≤ 2 ^ 32
-  pub blocks : e.start + e.len ≤ 2 ^ 32
+pub record IsStretch (e : Stretch) : Type 0 where
+  pub pages : e.page + e.more < 2 ^ 32
+  pub blocks : e.start + e.more < 2 ^ 32
+
+-- each is an extent
+abbrev pub AreStretches : List Stretch → Type 0
+AreStretches [] = Unit {0}
+AreStretches (e ∷ extents) = IsStretch e × AreStretches extents
 
 -- the first comes before the second, and they are no one extent
-pub record IsBefore (e f : Extent) : Type 0 where
-  pub rises : e.page + e.len ≤ f.page
+pub record IsBefore (e f : Stretch) : Type 0 where
+  pub rises : e.page + suc e.more ≤ f.page
   pub apart : touches e f ≡ false
 
-abbrev pub AreMaximal : List Extent → Type 0
+abbrev pub AreMaximal : List Stretch → Type 0
 AreMaximal [] = Unit {0}
-AreMaximal (e ∷ []) = IsExtent e
-AreMaximal (e ∷ f ∷ extents) = IsExtent e × IsBefore e f × AreMaximal (f ∷ extents)
+AreMaximal (e ∷ []) = IsStretch e
+AreMaximal (e ∷ f ∷ extents) = IsStretch e × IsBefore e f × AreMaximal (f ∷ extents)
 
-pub record IsKept (extents : List Extent) (reserved limit capacity : ℕ) : Type 0 where
+pub record IsKept (extents : List Stretch) (reserved limit capacity : ℕ) : Type 0 where
   pub maximal : AreMaximal extents
   pub small : limit < 2 ^ 32
   pub few : length extents ≤ limit

@@ -6,7 +6,15 @@ ghost use Rattle.vx_extents.specs.Extents.{extents_limit, chain_len, places, exp
 use std::alloc::{AllocError, Global};
 use std::marker::Model;
 use std::mem;
-use vx_base::{Block, Extent, Geom, Kind, Page};
+use crate::stretch::Stretch;
+use vx_base::{Block, Geom, Kind, Page};
+
+/// The map would have more extents than it may have.
+#[derive(Clone, Copy, Debug, PartialEq, Eq)]
+pub struct MapFull {
+    /// The number that would be reached.
+    pub extents: u32,
+}
 
 /// The block and the kind of each page of a file that has one.
 #[derive(Debug, Drop)]
@@ -15,7 +23,7 @@ pub struct ExtentMap {
     limit: u32,
     // How many pages can be added without further memory.
     reserved: u32,
-    extents: Vec<Extent>,
+    extents: Vec<Stretch>,
 }
 
 impl Model for ExtentMap {
@@ -120,13 +128,13 @@ fn places(geom: &Geom) -> u32
     geom.block / 16 - 1
 }
 
-fn find_in(extents: &[Extent], p: u32) -> Option<(Block, Kind)>
+fn find_in(extents: &[Stretch], p: u32) -> Option<(Block, Kind)>
     requires { AreMaximal extents.now }
     ensures { result ≡ mapped_at (expand extents.now) p }
 {
     for extent in extents {
         let page = extent.page.get();
-        if page <= p && p - page < extent.len {
+        if page <= p && p - page <= extent.more {
             let block = extent.start.get() + (p - page);
             return Some((Block::new(block), extent.kind));
         }
@@ -135,7 +143,7 @@ fn find_in(extents: &[Extent], p: u32) -> Option<(Block, Kind)>
 }
 
 // Drops every page from `p` on. The last extent that begins before it may be left in part.
-fn cut_extents(extents: &mut Vec<Extent>, p: u32)
+fn cut_extents(extents: &mut Vec<Stretch>, p: u32)
     requires { AreMaximal extents.old.items }
     ensures cut { extents.new.items ≡ cut_before p extents.old.items }
     ensures capacity { vec_capacity extents.new ≡ vec_capacity extents.old }
@@ -144,13 +152,13 @@ fn cut_extents(extents: &mut Vec<Extent>, p: u32)
     extents.truncate(keep);
     if keep > 0 {
         let last = extents[keep - 1];
-        let len = last.len.min(p - last.page.get());
-        extents[keep - 1] = Extent { len, ..last };
+        let more = last.more.min(p - last.page.get() - 1);
+        extents[keep - 1] = Stretch { more, ..last };
     }
 }
 
 // How many extents, from the first on, begin before `p`.
-fn begun_before(extents: &[Extent], p: u32) -> usize
+fn begun_before(extents: &[Stretch], p: u32) -> usize
     ensures { result ≡ begun_before p extents.now }
 {
     for i in 0..extents.len() {
