@@ -115,7 +115,7 @@ after_first e (f ∷ extents) all = all.1.rises
 
 -- ---- a page that is not there
 
-pub one : ℕ → ℕ → Kind → Stretch
+abbrev pub one : ℕ → ℕ → Kind → Stretch
 one p b kind = record { page = p; start = b; more = 0; kind = kind }
 
 module _ (p b : ℕ) (kind : Kind) where
@@ -132,25 +132,19 @@ module _ (p b : ℕ) (kind : Kind) where
   absent_after : (e : Stretch) (extents : List Stretch) → mapped_at (expand (e ∷ extents)) p ≡ None → e.page ≤ p → mapped_at (expand extents) p ≡ None
   absent_after e extents absent low = sym (past (suc e.more) e.page e.start e.kind p (expand extents) (ends_before e extents absent low)) ∙ absent
 
-  page_of : Mapped
-  page_of = record { page = p; block = b; kind = kind }
-
   add_step : (e : Stretch) (extents : List Stretch) (c : Bool) → nat_lt e.page p ≡ c → mapped_at (expand (e ∷ extents)) p ≡ None
-      → expand (added (one p b kind) extents) ≡ with_page (record { page = p; block = b; kind = kind }) (expand extents)
+      → (e.page ≤ p → expand (added (one p b kind) extents) ≡ with_page (record { page = p; block = b; kind = kind }) (expand extents))
       → expand (cond c (joined e (added (one p b kind) extents)) (joined (one p b kind) (e ∷ extents))) ≡ with_page (record { page = p; block = b; kind = kind }) (expand (e ∷ extents))
   add_step e extents true is absent rest =
+      let low : e.page ≤ p = omega (arith, less e.page p is) in
       expand_joined e (added (one p b kind) extents)
-      ∙ ap (λ (ms : List Mapped). run (suc e.more) e.page e.start e.kind ++ ms) rest
-      ∙ sym (with_run (suc e.more) e.page e.start e.kind (record { page = p; block = b; kind = kind }) (expand extents) (ends_before e extents absent (omega (arith, less e.page p is))))
+      ∙ ap (λ (ms : List Mapped). run (suc e.more) e.page e.start e.kind ++ ms) (rest low)
+      ∙ sym (with_run (suc e.more) e.page e.start e.kind (record { page = p; block = b; kind = kind }) (expand extents) (ends_before e extents absent low))
   add_step e extents false is absent rest = expand_joined (one p b kind) (e ∷ extents) ∙ rw is refl
 
   pub expand_added : (extents : List Stretch) → mapped_at (expand extents) p ≡ None → expand (added (one p b kind) extents) ≡ with_page (record { page = p; block = b; kind = kind }) (expand extents)
   expand_added [] absent = refl
-  expand_added (e ∷ extents) absent = again (nat_lt e.page p) refl
-    where
-      again : (c : Bool) → nat_lt e.page p ≡ c → expand (cond (nat_lt e.page p) (joined e (added (one p b kind) extents)) (joined (one p b kind) (e ∷ extents))) ≡ with_page (record { page = p; block = b; kind = kind }) (expand (e ∷ extents))
-      again true is = rw is (add_step e extents true is absent (expand_added extents (absent_after e extents absent (omega (arith, less e.page p is)))))
-      again false is = rw is (expand_joined (one p b kind) (e ∷ extents) ∙ rw is refl)
+  expand_added (e ∷ extents) absent = add_step e extents (nat_lt e.page p) refl absent (λ low. expand_added extents (absent_after e extents absent low))
 
   added_begins : (n : ℕ) (extents : List Stretch) → n ≤ p → BeginFrom n extents → BeginFrom n (added (one p b kind) extents)
   added_begins n [] le from = le
@@ -163,18 +157,73 @@ module _ (p b : ℕ) (kind : Kind) where
   one_is : p < 2 ^ 32 → b < 2 ^ 32 → IsStretch (one p b kind)
   one_is page block = record { pages = omega (arith, page); blocks = omega (arith, block) }
 
-  pub added_maximal : (extents : List Stretch) → p < 2 ^ 32 → b < 2 ^ 32 → AreMaximal extents → mapped_at (expand extents) p ≡ None → AreMaximal (added (one p b kind) extents)
-  added_maximal [] page block all absent = one_is page block
-  added_maximal (e ∷ extents) page block all absent = steps (nat_lt e.page p) refl
-    where
-      steps : (c : Bool) → nat_lt e.page p ≡ c → AreMaximal (cond c (joined e (added (one p b kind) extents)) (joined (one p b kind) (e ∷ extents)))
-      steps true is =
-          let low : e.page ≤ p = omega (arith, less e.page p is) in
-          joined_maximal e (added (one p b kind) extents) (first_is extents e all)
-          (added_begins (e.page + suc e.more) extents (ends_before e extents absent low) (after_first e extents all))
-          (added_maximal extents page block (rest_maximal extents e all) (absent_after e extents absent low))
-      steps false is = joined_maximal (one p b kind) (e ∷ extents) (one_is page block) (after (nat_lt p e.page) refl) all
-        where
-          after : (c : Bool) → nat_lt p e.page ≡ c → p + suc 0 ≤ e.page
-          after true up = omega (arith, less p e.page up)
-          after false up = let ends = ends_before e extents absent (more p e.page up) in absurd (omega (arith, ends, more e.page p is))
+  begins_after : (e : Stretch) (extents : List Stretch) (c : Bool) → nat_lt p e.page ≡ c → mapped_at (expand (e ∷ extents)) p ≡ None → p ≤ e.page → p + suc 0 ≤ e.page
+  begins_after e extents true up absent le = omega (arith, less p e.page up)
+  begins_after e extents false up absent le = let ends = ends_before e extents absent (more p e.page up) in absurd (omega (arith, ends, le))
+
+  maximal_step : (e : Stretch) (extents : List Stretch) (c : Bool) → nat_lt e.page p ≡ c → IsStretch (one p b kind) → AreMaximal (e ∷ extents) → mapped_at (expand (e ∷ extents)) p ≡ None
+      → (e.page ≤ p → AreMaximal (added (one p b kind) extents)) → AreMaximal (cond c (joined e (added (one p b kind) extents)) (joined (one p b kind) (e ∷ extents)))
+  maximal_step e extents true is some all absent rest =
+      let low : e.page ≤ p = omega (arith, less e.page p is) in
+      joined_maximal e (added (one p b kind) extents) (first_is extents e all) (added_begins (e.page + suc e.more) extents (ends_before e extents absent low) (after_first e extents all)) (rest low)
+  maximal_step e extents false is some all absent rest =
+      joined_maximal (one p b kind) (e ∷ extents) some (begins_after e extents (nat_lt p e.page) refl absent (more e.page p is)) all
+
+  pub added_maximal : (extents : List Stretch) → IsStretch (one p b kind) → AreMaximal extents → mapped_at (expand extents) p ≡ None → AreMaximal (added (one p b kind) extents)
+  added_maximal [] some all absent = some
+  added_maximal (e ∷ extents) some all absent =
+      maximal_step e extents (nat_lt e.page p) refl some all absent (λ low. added_maximal extents some (rest_maximal extents e all) (absent_after e extents absent low))
+
+-- ---- as the code does it
+
+-- one that does not touch the next stays as it is, whatever the next is joined to
+join_apart : (e f g : Stretch) (extents : List Stretch) (b : Bool) → touches e f ≡ false → joined e (cond b (record f { more = f.more + suc g.more } ∷ extents) (f ∷ g ∷ extents)) ≡ e ∷ cond b (record f { more = f.more + suc g.more } ∷ extents) (f ∷ g ∷ extents)
+join_apart e f g extents true apart = rw apart refl
+join_apart e f g extents false apart = rw apart refl
+
+joined_apart : (e f : Stretch) (extents : List Stretch) → touches e f ≡ false → joined e (joined f extents) ≡ e ∷ joined f extents
+joined_apart e f [] apart = rw apart refl
+joined_apart e f (g ∷ extents) apart = join_apart e f g extents (touches f g) apart
+
+begun : (c : Bool) (n k : ℕ) → cond c (suc n) zero ≡ suc k → (c ≡ true) × (n ≡ k)
+begun true n k is = (refl, omega arith)
+begun false n k is = absurd (omega arith)
+
+module _ (x : Stretch) where
+  not_begun : (c : Bool) (n : ℕ) → cond c (suc n) zero ≡ zero → c ≡ false
+  not_begun true n is = absurd (omega arith)
+  not_begun false n is = refl
+
+  added_first : (extents : List Stretch) → begun_before x.page extents ≡ zero → added x extents ≡ joined x extents
+  added_first [] none = refl
+  added_first (e ∷ extents) none = rw (not_begun (nat_lt e.page x.page) (begun_before x.page extents) none) refl
+
+  -- past an extent that another one follows below the place
+  added_past : (e f : Stretch) (extents : List Stretch) (k : ℕ) → AreMaximal (e ∷ f ∷ extents) → begun_before x.page (e ∷ f ∷ extents) ≡ suc (suc k) → added x (e ∷ f ∷ extents) ≡ e ∷ added x (f ∷ extents)
+  added_past e f extents k all at =
+      let now = begun (nat_lt e.page x.page) (begun_before x.page (f ∷ extents)) (suc k) at in
+      let next = begun (nat_lt f.page x.page) (begun_before x.page extents) k now.1 in
+      rw (now.0, next.0) (joined_apart e f (added x extents) all.1.apart)
+
+  -- the extents, once the new one stands at its place and is joined to the next
+  abbrev joined_before : ℕ → List Stretch → List Stretch
+  joined_before zero extents = extents
+  joined_before (suc n) extents = joined_at n extents
+
+  pub inserted : (extents : List Stretch) (k : ℕ) → AreMaximal extents → begun_before x.page extents ≡ k → joined_before k (joined_at k (insert extents k x)) ≡ added x extents
+  inserted [] zero all at = refl
+  inserted [] (suc k) all at = absurd (omega arith)
+  inserted (e ∷ extents) zero all at = sym (added_first (e ∷ extents) at)
+  inserted (e ∷ extents) (suc zero) all at =
+      let now = begun (nat_lt e.page x.page) (begun_before x.page extents) zero at in
+      rw now.0 (ap (joined e) (inserted extents zero (rest_maximal extents e all) now.1))
+  inserted (e ∷ []) (suc (suc k)) all at = absurd (omega (arith, (begun (nat_lt e.page x.page) zero (suc k) at).1))
+  inserted (e ∷ f ∷ extents) (suc (suc k)) all at =
+      let now = begun (nat_lt e.page x.page) (begun_before x.page (f ∷ extents)) (suc k) at in
+      ap (λ (es : List Stretch). e ∷ es) (inserted (f ∷ extents) (suc k) all.2 now.1) ∙ sym (added_past e f extents k all at)
+
+  -- ---- how many they are
+
+  one_if : Bool → ℕ
+  one_if true = 1
+  one_if false = 0
