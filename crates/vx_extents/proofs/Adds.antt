@@ -1,20 +1,20 @@
 -- Extents that a further page is added to.
-use Rattle.std.proofs.Common.{◌≡◌, ℕ, zero, suc, ◌+◌, ◌-◌, ◌<◌, ◌≤◌, ◌^◌, Bool, true, false, List, [], ◌∷◌, ◌++◌, length, get_or, drop, None, Some, refl, sym, ap, ◌∙◌, subst, arith, cond}
-use Rattle.std.specs.Prelude.{nat_lt, nat_eq, ◌==◌, ◌&&◌, insert}
+use Rattle.std.proofs.Common.{◌≡◌, ℕ, zero, suc, ◌+◌, ◌<◌, ◌≤◌, ◌^◌, Bool, true, false, List, [], ◌∷◌, ◌++◌, length, get_or, set, None, Ok, Err, refl, sym, ap, ◌∙◌, arith, cond}
+use Rattle.std.specs.Prelude.{nat_lt, nat_le, nat_eq, ◌==◌, ◌&&◌, insert, remove}
 use Rattle.std.proofs.lemmas.Bool.Decides.{nat_tests}
 use Rattle.vx_base.specs.declared.kind.Kind.{Kind}
 use Rattle.vx_base.specs.declared.kind.Kind.TheVariants.{Data, Reserved}
 use Rattle.vx_extents.specs.declared.stretch.Stretch.{Stretch}
-use Rattle.vx_extents.specs.Extents.{Mapped, mapped_at, with_page, same_kind, run, expand, touches, joined, joined_at, added, begun_before, IsStretch, IsBefore, AreMaximal, AreStretches}
-use Rattle.vx_extents.proofs.Runs.{hit, past, rest_maximal}
-use Rattle.vx_extents.proofs.Cuts.{yes_less, not_less, less, more}
+use Rattle.vx_extents.specs.Extents.{Mapped, mapped_at, with_page, allowed, extent_count, same_kind, run, expand, touches, touches_before, touches_after, joined, joined_at, added, begun_before, IsStretch, AreMaximal, AreStretches}
+use Rattle.vx_extents.proofs.Runs.{hit, past, rest_maximal, count_is_length}
+use Rattle.vx_extents.proofs.Cuts.{yes_less, less, more}
 
 -- ---- what touching says
 
-record Adjoins (e f : Stretch) : Type 0 where
-  page : e.page + suc e.more ≡ f.page
-  block : e.start + suc e.more ≡ f.start
-  kind : e.kind ≡ f.kind
+pub record Adjoins (e f : Stretch) : Type 0 where
+  pub page : e.page + suc e.more ≡ f.page
+  pub block : e.start + suc e.more ≡ f.start
+  pub kind : e.kind ≡ f.kind
 
 kinds_meet : (k l : Kind) → same_kind k l ≡ true → k ≡ l
 kinds_meet Data Data is = refl
@@ -29,15 +29,11 @@ both false b is = absurd (cc)
 numbers_meet : (m n : ℕ) → nat_eq m n ≡ true → m ≡ n
 numbers_meet m n is = grind (arith, nat_tests)
 
-adjoins : (e f : Stretch) → touches e f ≡ true → Adjoins e f
+pub adjoins : (e f : Stretch) → touches e f ≡ true → Adjoins e f
 adjoins e f is =
     let first = both (e.page + suc e.more == f.page) ((e.start + suc e.more == f.start) && same_kind e.kind f.kind) is in
     let second = both (e.start + suc e.more == f.start) (same_kind e.kind f.kind) first.1 in
     record { page = numbers_meet (e.page + suc e.more) f.page first.0; block = numbers_meet (e.start + suc e.more) f.start second.0; kind = kinds_meet e.kind f.kind second.1 }
-
--- the two as one
-whole : Stretch → Stretch → Stretch
-whole e f = record e { more = e.more + suc f.more }
 
 whole_touches : (e f g : Stretch) → Adjoins e f → touches (record e { more = e.more + suc f.more }) g ≡ touches f g
 whole_touches e f g meet =
@@ -189,6 +185,10 @@ begun : (c : Bool) (n k : ℕ) → cond c (suc n) zero ≡ suc k → (c ≡ true
 begun true n k is = (refl, omega arith)
 begun false n k is = absurd (omega arith)
 
+abbrev pub one_if : Bool → ℕ
+one_if true = 1
+one_if false = 0
+
 module _ (x : Stretch) where
   not_begun : (c : Bool) (n : ℕ) → cond c (suc n) zero ≡ zero → c ≡ false
   not_begun true n is = absurd (omega arith)
@@ -206,7 +206,7 @@ module _ (x : Stretch) where
       rw (now.0, next.0) (joined_apart e f (added x extents) all.1.apart)
 
   -- the extents, once the new one stands at its place and is joined to the next
-  abbrev joined_before : ℕ → List Stretch → List Stretch
+  abbrev pub joined_before : ℕ → List Stretch → List Stretch
   joined_before zero extents = extents
   joined_before (suc n) extents = joined_at n extents
 
@@ -224,6 +224,132 @@ module _ (x : Stretch) where
 
   -- ---- how many they are
 
-  one_if : Bool → ℕ
-  one_if true = 1
-  one_if false = 0
+  join_length : (e f : Stretch) (extents : List Stretch) (b : Bool) → length (cond b (record e { more = e.more + suc f.more } ∷ extents) (e ∷ f ∷ extents)) + one_if b ≡ suc (suc (length extents))
+  join_length e f extents true = omega arith
+  join_length e f extents false = omega arith
+
+  twice_step : (e f : Stretch) (extents : List Stretch) (b : Bool) → length (joined e (cond b (record x { more = x.more + suc f.more } ∷ extents) (x ∷ f ∷ extents))) + one_if (touches e x) ≡ suc (length (cond b (record x { more = x.more + suc f.more } ∷ extents) (x ∷ f ∷ extents)))
+  twice_step e f extents true = join_length e (record x { more = x.more + suc f.more }) extents (touches e x)
+  twice_step e f extents false = join_length e x (f ∷ extents) (touches e x)
+
+  twice : (e : Stretch) (extents : List Stretch) → length (joined e (joined x extents)) + one_if (touches e x) ≡ suc (length (joined x extents))
+  twice e [] = join_length e x [] (touches e x)
+  twice e (f ∷ extents) = twice_step e f extents (touches x f)
+
+  pub counted : (extents : List Stretch) (k : ℕ) → AreMaximal extents → begun_before x.page extents ≡ k → length (added x extents) + (one_if (touches_before x k extents) + one_if (touches_after x k extents)) ≡ length extents + 1
+  counted [] zero all at = refl
+  counted [] (suc k) all at = absurd (omega arith)
+  counted (e ∷ extents) zero all at =
+      let same : length (added x (e ∷ extents)) ≡ length (joined x (e ∷ extents)) = ap length (added_first (e ∷ extents) at) in
+      omega (arith, same, join_length x e extents (touches x e))
+  counted (e ∷ extents) (suc zero) all at =
+      let now = begun (nat_lt e.page x.page) (begun_before x.page extents) zero at in
+      let first : added x extents ≡ joined x extents = added_first extents now.1 in
+      let grown : added x (e ∷ extents) ≡ joined e (joined x extents) = rw now.0 (ap (joined e) first) in
+      let rest = counted extents zero (rest_maximal extents e all) now.1 in
+      omega (arith, ap length grown, ap length first, twice e extents, rest)
+  counted (e ∷ []) (suc (suc k)) all at = absurd (omega (arith, (begun (nat_lt e.page x.page) zero (suc k) at).1))
+  counted (e ∷ f ∷ extents) (suc (suc k)) all at =
+      let now = begun (nat_lt e.page x.page) (begun_before x.page (f ∷ extents)) (suc k) at in
+      let rest = counted (f ∷ extents) (suc k) all.2 now.1 in
+      omega (arith, ap length (added_past e f extents k all at), rest)
+
+-- ---- one extent joined to the next
+
+pub is_at : (extents : List Stretch) (n : ℕ) (d : Stretch) → AreStretches extents → n < length extents → IsStretch (get_or extents n d)
+is_at [] n d each lt = absurd (omega (arith, lt))
+is_at (e ∷ extents) zero d each lt = each.0
+is_at (e ∷ extents) (suc n) d each lt = is_at extents n d each.1 (omega (arith, lt))
+
+pub insert_each : (extents : List Stretch) (n : ℕ) (x : Stretch) → AreStretches extents → IsStretch x → AreStretches (insert extents n x)
+insert_each [] zero x each is = (is, tt)
+insert_each [] (suc n) x each is = (is, tt)
+insert_each (e ∷ extents) zero x each is = (is, each)
+insert_each (e ∷ extents) (suc n) x each is = (each.0, insert_each extents n x each.1 is)
+
+join_each : (e f : Stretch) (extents : List Stretch) (b : Bool) → touches e f ≡ b → AreStretches (e ∷ f ∷ extents) → AreStretches (cond b (record e { more = e.more + suc f.more } ∷ extents) (e ∷ f ∷ extents))
+join_each e f extents true is each = (whole_is e f (adjoins e f is) each.1.0, each.1.1)
+join_each e f extents false is each = each
+
+pub joined_each : (extents : List Stretch) (n : ℕ) → AreStretches extents → AreStretches (joined_at n extents)
+joined_each [] n each = tt
+joined_each (e ∷ []) zero each = each
+joined_each (e ∷ f ∷ extents) zero each = join_each e f extents (touches e f) refl each
+joined_each (e ∷ extents) (suc n) each = (each.0, joined_each extents n each.1)
+
+join_some : (e f : Stretch) (extents : List Stretch) (b : Bool) → 0 < length (cond b (record e { more = e.more + suc f.more } ∷ extents) (e ∷ f ∷ extents))
+join_some e f extents true = omega arith
+join_some e f extents false = omega arith
+
+pub joined_reaches : (extents : List Stretch) (n : ℕ) → n < length extents → n < length (joined_at n extents)
+joined_reaches [] n lt = absurd (omega (arith, lt))
+joined_reaches (e ∷ []) zero lt = omega arith
+joined_reaches (e ∷ f ∷ extents) zero lt = join_some e f extents (touches e f)
+joined_reaches (e ∷ extents) (suc n) lt = let rest = joined_reaches extents n (omega (arith, lt)) in omega (arith, rest)
+
+pub last_stays : (extents : List Stretch) (n : ℕ) → length extents ≤ suc n → joined_at n extents ≡ extents
+last_stays [] n le = refl
+last_stays (e ∷ []) zero le = refl
+last_stays (e ∷ f ∷ extents) zero le = absurd (omega (arith, le))
+last_stays (e ∷ extents) (suc n) le = ap (λ (es : List Stretch). e ∷ es) (last_stays extents n (omega (arith, le)))
+
+pub apart_stays : (extents : List Stretch) (n : ℕ) (e f : Stretch) → suc n < length extents → e ≡ get_or extents n e → f ≡ get_or extents (suc n) f → touches e f ≡ false → joined_at n extents ≡ extents
+apart_stays [] n e f lt at next is = refl
+apart_stays (g ∷ []) n e f lt at next is = absurd (omega (arith, lt))
+apart_stays (g ∷ h ∷ extents) zero e f lt at next is =
+    let no : touches g h ≡ false = (λ i. touches (sym at i) (sym next i)) ∙ is in
+    rw no refl
+apart_stays (g ∷ h ∷ extents) (suc n) e f lt at next is = ap (λ (es : List Stretch). g ∷ es) (apart_stays (h ∷ extents) n e f (omega (arith, lt)) at next is)
+
+pub joins : (extents : List Stretch) (n m : ℕ) (e f : Stretch) → suc n < length extents → e ≡ get_or extents n e → f ≡ get_or extents (suc n) f → touches e f ≡ true → m ≡ e.more + suc f.more
+    → remove (set extents n (record e { more = m })) (suc n) ≡ joined_at n extents
+joins [] n m e f lt at next is much = absurd (omega (arith, lt))
+joins (g ∷ []) n m e f lt at next is much = absurd (omega (arith, lt))
+joins (g ∷ h ∷ extents) zero m e f lt at next is much =
+    let yes : touches g h ≡ true = (λ i. touches (sym at i) (sym next i)) ∙ is in
+    let more_of : m ≡ g.more + suc h.more = much ∙ (λ i. (at i).more + suc (next i).more) in
+    rw yes (λ i. record { page = (at i).page; start = (at i).start; more = more_of i; kind = (at i).kind } ∷ extents)
+joins (g ∷ h ∷ extents) (suc n) m e f lt at next is much = ap (λ (es : List Stretch). g ∷ es) (joins (h ∷ extents) n m e f (omega (arith, lt)) at next is much)
+
+pub first_after : (x : Stretch) (extents : List Stretch) (n : ℕ) (f : Stretch) → n < length extents → f ≡ get_or extents n f → touches x f ≡ touches_after x n extents
+first_after x [] n f lt at = absurd (omega (arith, lt))
+first_after x (e ∷ extents) zero f lt at = ap (touches x) at
+first_after x (e ∷ extents) (suc n) f lt at = first_after x extents n f (omega (arith, lt)) at
+
+pub none_after : (x : Stretch) (extents : List Stretch) (n : ℕ) → length extents ≤ n → false ≡ touches_after x n extents
+none_after x [] zero le = refl
+none_after x [] (suc n) le = refl
+none_after x (e ∷ extents) zero le = absurd (omega (arith, le))
+none_after x (e ∷ extents) (suc n) le = none_after x extents n (omega (arith, le))
+
+pub last_before : (x : Stretch) (extents : List Stretch) (n k : ℕ) (e : Stretch) → k ≡ suc n → n < length extents → e ≡ get_or extents n e → touches e x ≡ touches_before x k extents
+last_before x extents n zero e is lt at = absurd (omega arith)
+last_before x extents n (suc k) e is lt at =
+    let same : n ≡ k = omega (arith, is) in
+    ap (λ (f : Stretch). touches f x) (at ∙ other extents n e x lt) ∙ ap (λ (i : ℕ). touches (get_or extents i x) x) same
+  where
+    other : (extents : List Stretch) (n : ℕ) (d f : Stretch) → n < length extents → get_or extents n d ≡ get_or extents n f
+    other [] n d f lt = absurd (omega (arith, lt))
+    other (e ∷ extents) zero d f lt = refl
+    other (e ∷ extents) (suc n) d f lt = other extents n d f (omega (arith, lt))
+
+-- ---- what is answered
+
+module _ (p b : ℕ) (kind : Kind) (extents : List Stretch) where
+  pub most : AreMaximal extents → length (added (one p b kind) extents) ≤ length extents + 1
+  most all = omega (arith, counted (one p b kind) extents (begun_before p extents) all refl)
+
+  count_with : IsStretch (one p b kind) → AreMaximal extents → mapped_at (expand extents) p ≡ None → extent_count (with_page (record { page = p; block = b; kind = kind }) (expand extents)) ≡ length (added (one p b kind) extents)
+  count_with some all absent = ap extent_count (sym (expand_added p b kind extents absent)) ∙ count_is_length (added (one p b kind) extents) (added_maximal p b kind extents some all absent)
+
+  pub refused : (limit n : ℕ) → IsStretch (one p b kind) → AreMaximal extents → mapped_at (expand extents) p ≡ None → n ≡ length (added (one p b kind) extents) → limit < n
+      → Err (record { extents = n }) ≡ allowed limit (extent_count (with_page (record { page = p; block = b; kind = kind }) (expand extents)))
+  refused limit n some all absent same over =
+      let no : nat_le n limit ≡ false = grind (arith, nat_tests) in
+      rw (count_with some all absent, ← same, no) refl
+
+  pub passed : (limit n : ℕ) → IsStretch (one p b kind) → AreMaximal extents → mapped_at (expand extents) p ≡ None → n ≡ length (added (one p b kind) extents) → n ≤ limit
+      → Ok tt ≡ allowed limit (extent_count (with_page (record { page = p; block = b; kind = kind }) (expand extents)))
+  passed limit n some all absent same within =
+      let yes : nat_le n limit ≡ true = grind (arith, nat_tests) in
+      rw (count_with some all absent, ← same, yes) refl

@@ -5,7 +5,7 @@ use Rattle.std.proofs.lemmas.Bool.Decides.{nat_tests}
 use Rattle.vx_base.specs.declared.kind.Kind.{Kind}
 use Rattle.vx_base.specs.declared.kind.Kind.TheVariants.{Data, Reserved}
 use Rattle.vx_extents.specs.declared.stretch.Stretch.{Stretch}
-use Rattle.vx_extents.specs.Extents.{Mapped, mapped_at, same_kind, follows, begun_after, extent_count, run, expand, IsStretch, AreMaximal}
+use Rattle.vx_extents.specs.Extents.{Mapped, mapped_at, same_kind, follows, begun_after, extent_count, run, expand, AreMaximal}
 
 kind_itself : (k : Kind) → same_kind k k ≡ true
 kind_itself Data = refl

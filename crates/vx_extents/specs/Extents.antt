@@ -1,5 +1,5 @@
 -- The pages of a file, and the extents that they stand in.
-use Rattle.std.specs.Prelude.{◌≡◌, ℕ, zero, suc, ◌+◌, ◌-◌, ◌*◌, ◌/◌, ◌^◌, ◌<◌, ◌≤◌, Bool, true, false, ◌&&◌, ◌==◌, nat_le, nat_lt, min, if◌then◌else◌, List, [], ◌∷◌, ◌++◌, length, Option, Some, None, Result, Ok, Err}
+use Rattle.std.specs.Prelude.{◌≡◌, ℕ, zero, suc, ◌+◌, ◌-◌, ◌*◌, ◌/◌, ◌^◌, ◌<◌, ◌≤◌, Bool, true, false, ◌&&◌, ◌==◌, nat_le, nat_lt, min, if◌then◌else◌, List, [], ◌∷◌, ◌++◌, length, get_or, drop, Option, Some, None, Result, Ok, Err}
 use Rattle.std.specs.Int.{div_ceil}
 use Rattle.vx_base.specs.declared.geom.Geom.{Geom}
 use Rattle.vx_base.specs.declared.kind.Kind.{Kind}
@@ -97,6 +97,19 @@ abbrev pub added : Stretch → List Stretch → List Stretch
 added x [] = x ∷ []
 added x (e ∷ extents) = if nat_lt e.page x.page then joined e (added x extents) else joined x (e ∷ extents)
 
+-- the last of so many extents touches the new one
+abbrev pub touches_before : Stretch → ℕ → List Stretch → Bool
+touches_before x zero extents = false
+touches_before x (suc n) extents = touches (get_or extents n x) x
+
+abbrev pub touches_first : Stretch → List Stretch → Bool
+touches_first x [] = false
+touches_first x (f ∷ extents) = touches x f
+
+-- the new one touches the first past so many extents
+abbrev pub touches_after : Stretch → ℕ → List Stretch → Bool
+touches_after x n extents = touches_first x (drop n extents)
+
 -- the extent at a place is one with the next where they touch
 abbrev pub joined_at : ℕ → List Stretch → List Stretch
 joined_at n [] = []
@@ -138,6 +151,6 @@ AreMaximal (e ∷ f ∷ extents) = IsStretch e × IsBefore e f × AreMaximal (f 
 
 pub record IsKept (extents : List Stretch) (reserved limit capacity : ℕ) : Type 0 where
   pub maximal : AreMaximal extents
-  pub small : limit < 2 ^ 32
+  pub small : limit + 1 < 2 ^ 32
   pub few : length extents ≤ limit
   pub room : length extents + reserved ≤ capacity

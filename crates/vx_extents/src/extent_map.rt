@@ -1,12 +1,12 @@
 //! A file's pages, kept as maximal stretches.
-ghost use Rattle.std.specs.Prelude.{◌≡◌, ◌+◌, ◌-◌, ◌*◌, ◌/◌, ◌<◌, ◌≤◌, ◌^◌, max, OnOk, OnErr, [], filter, nat_lt, vec_capacity};
+ghost use Rattle.std.specs.Prelude.{◌≡◌, ◌+◌, ◌-◌, ◌*◌, ◌/◌, ◌<◌, ◌≤◌, ◌^◌, max, OnOk, OnErr, None, [], suc, ◌==◌, length, filter, nat_lt, vec_capacity};
 ghost use Rattle.vx_base.specs.declared.geom.Geom.{Geom};
-ghost use Rattle.vx_extents.specs.Extents.{extents_limit, chain_len, places, expand, AreMaximal, mapped_at, extent_count, cut_before, begun_before};
+ghost use Rattle.vx_extents.specs.Extents.{extents_limit, chain_len, places, expand, AreMaximal, mapped_at, extent_count, cut_before, begun_before, add_answer, with_add, touches, touches_before, touches_after, same_kind, joined_at, added, IsStretch, AreStretches};
 
+use crate::stretch::Stretch;
 use std::alloc::{AllocError, Global};
 use std::marker::Model;
 use std::mem;
-use crate::stretch::Stretch;
 use vx_base::{Block, Geom, Kind, Page};
 
 /// The map would have more extents than it may have.
@@ -82,6 +82,31 @@ impl ExtentMap {
     {
         self.extents.reserve(n as usize)?;
         self.reserved = self.reserved.max(n);
+        Ok(())
+    }
+
+    /// Gives the page a block, for which memory is there; unchanged where the map would have too many extents.
+    pub fn add(&mut self, p: Page, b: Block, kind: Kind) -> Result<(), MapFull>
+        requires absent { mapped_at self.old.pages p ≡ None }
+        requires reserved { 1 ≤ self.old.reserved }
+        ensures answer { result ≡ add_answer self.old p b kind }
+        ensures added { OnOk result (self.new ≡ with_add self.old p b kind) }
+        ensures unchanged { OnErr result (self.new ≡ self.old) }
+    {
+        let new = Stretch {
+            page: p,
+            start: b,
+            more: 0,
+            kind,
+        };
+        let at = begun_before(self.extents.as_slice(), p.get());
+        let extents = extents_with(self.extents.as_slice(), at, &new);
+        if extents > self.limit as usize {
+            let extents = extents as u32;
+            return Err(MapFull { extents });
+        }
+        insert_joined(&mut self.extents, at, new);
+        self.reserved -= 1;
         Ok(())
     }
 
@@ -167,4 +192,99 @@ fn begun_before(extents: &[Stretch], p: u32) -> usize
         }
     }
     extents.len()
+}
+
+// The number of extents, once the new one stands at its place.
+fn extents_with(stretches: &[Stretch], at: usize, new: &Stretch) -> usize
+    requires maximal { AreMaximal stretches.now }
+    requires place { at ≡ begun_before new.now.page stretches.now }
+    ensures { result ≡ length (added new.now stretches.now) }
+{
+    match (
+        touches_before(stretches, at, new),
+        touches_after(stretches, at, new),
+    ) {
+        (true, true) => stretches.len() - 1,
+        (true, false) => stretches.len(),
+        (false, true) => stretches.len(),
+        (false, false) => stretches.len() + 1,
+    }
+}
+
+// Whether the last of the first `at` extents touches the new one.
+fn touches_before(stretches: &[Stretch], at: usize, new: &Stretch) -> bool
+    requires { at ≤ length stretches.now }
+    ensures { result ≡ touches_before new.now at stretches.now }
+{
+    at > 0 && touches(&stretches[at - 1], new)
+}
+
+// Whether the new extent touches the first past the first `at`.
+fn touches_after(stretches: &[Stretch], at: usize, new: &Stretch) -> bool
+    ensures { result ≡ touches_after new.now at stretches.now }
+{
+    at < stretches.len() && touches(new, &stretches[at])
+}
+
+// Puts the new extent at its place, as one with those that it touches.
+fn insert_joined(stretches: &mut Vec<Stretch>, at: usize, new: Stretch)
+    requires maximal { AreMaximal stretches.old.items }
+    requires extent { IsStretch new }
+    requires place { at ≡ begun_before new.page stretches.old.items }
+    requires room { length stretches.old.items < vec_capacity stretches.old }
+    ensures added { stretches.new.items ≡ added new stretches.old.items }
+    ensures capacity { vec_capacity stretches.new ≡ vec_capacity stretches.old }
+{
+    match stretches.insert(at, new) {
+        Ok(()) => {}
+        Err(_) => unreachable!(),
+    }
+    join_next(stretches, at);
+    if at > 0 {
+        join_next(stretches, at - 1);
+    }
+}
+
+// Makes the extent one with the next, where they touch.
+fn join_next(stretches: &mut Vec<Stretch>, i: usize)
+    requires bound { i < length stretches.old.items }
+    requires each { AreStretches stretches.old.items }
+    ensures joined { stretches.new.items ≡ joined_at i stretches.old.items }
+    ensures capacity { vec_capacity stretches.new ≡ vec_capacity stretches.old }
+{
+    if i + 1 < stretches.len() {
+        let extent = stretches[i];
+        let next = stretches[i + 1];
+        if touches(&extent, &next) {
+            let more = extent.more + next.more + 1;
+            stretches[i] = Stretch { more, ..extent };
+            stretches.remove(i + 1);
+        }
+    }
+}
+
+// Whether the second goes on where the first ends, in pages and in blocks, and is of its kind.
+fn touches(extent: &Stretch, next: &Stretch) -> bool
+    ensures { result ≡ touches extent.now next.now }
+{
+    let page = goes_on(extent.page.get(), extent.more, next.page.get());
+    let block = goes_on(extent.start.get(), extent.more, next.start.get());
+    page && block && same_kind(extent.kind, next.kind)
+}
+
+// Whether the number comes after the first one and so many more.
+fn goes_on(first: u32, more: u32, number: u32) -> bool
+    ensures { result ≡ (first + suc more == number) }
+{
+    first < number && number - first - 1 == more
+}
+
+fn same_kind(kind: Kind, other: Kind) -> bool
+    ensures { result ≡ same_kind kind other }
+{
+    match (kind, other) {
+        (Kind::Data, Kind::Data) => true,
+        (Kind::Reserved, Kind::Reserved) => true,
+        _ => false,
+    }
 }
