@@ -184,14 +184,10 @@ fn cut_extents(extents: &mut Vec<Stretch>, p: u32)
 
 // How many extents, from the first on, begin before `p`.
 fn begun_before(extents: &[Stretch], p: u32) -> usize
+    requires { AreMaximal extents.now }
     ensures { result ≡ begun_before p extents.now }
 {
-    for i in 0..extents.len() {
-        if extents[i].page.get() >= p {
-            return i;
-        }
-    }
-    extents.len()
+    extents.partition_point(|extent| extent.page.get() < p)
 }
 
 // The number of extents, once the new one stands at its place.
