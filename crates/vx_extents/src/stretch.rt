@@ -1,13 +1,12 @@
 //! Maximal stretches, as a map keeps them.
 use vx_base::{Block, Kind, Page};
 
-/// Pages in consecutive blocks. Every page of a file may stand in one stretch: the count of the pages past the first
-/// one fits then, and that of all would not.
+/// Consecutive pages of one kind in consecutive blocks.
 #[derive(Clone, Copy, Debug)]
 pub struct Stretch {
     pub page: Page,
     pub start: Block,
-    /// The number of pages past the first one.
+    /// The number of pages past the first one. With that one they may be 2^32, which no u32 holds.
     pub more: u32,
     pub kind: Kind,
 }
