@@ -1,11 +1,5 @@
-pub mod Laws
 pub mod Runs
 pub mod Standing
-pub mod Changing
-pub mod Reading
-pub mod Formatting
-pub mod Keeping
-pub mod Entries
 pub mod Batches
 pub mod Determined
 pub mod Allowing

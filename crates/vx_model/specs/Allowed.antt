@@ -27,6 +27,12 @@ call_at history place = option_and_then call_of (slice_get history place)
 -- calls that are durable once they have returned, with all that came before them
 abbrev pub is_durable : Call → Bool
 is_durable (call.Create path mode) = true
+is_durable (call.Mkdir path mode) = true
+is_durable (call.Unlink path) = true
+is_durable (call.Rmdir path) = true
+is_durable (call.Link old new) = true
+is_durable (call.Rename old new) = true
+is_durable (call.Chmod path mode) = true
 is_durable _ = false
 
 abbrev pub is_refusal : Reply → Bool

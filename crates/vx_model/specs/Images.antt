@@ -1,10 +1,10 @@
 -- What the metadata sectors of a volume hold. What an image says determines each of them by one function.
-use Rattle.std.specs.Prelude.{◌≡◌, ℕ, ◌+◌, ◌*◌, ◌<◌, Bool, true, false, ◌||◌, ◌==◌, nat_lt, List, [], ◌∷◌, ◌++◌, replicate, Option, Some, None, is_some, IsTrue, IfSome}
+use Rattle.std.specs.Prelude.{◌≡◌, ℕ, ◌+◌, ◌*◌, Bool, false, ◌||◌, ◌==◌, nat_lt, List, [], ◌∷◌, ◌++◌, replicate, Option, Some, None, is_some, IsTrue, IfSome}
 use Rattle.std.specs.Option.{option_map, unwrap_or}
 use Rattle.std.specs.List.{list_any, AllByRecursion}
 use Rattle.vx_base.specs.declared.inode.InodeValue.{InodeValue}
 use Rattle.vx_base.specs.declared.inode.DirEntry.{DirEntry}
-use Rattle.vx_layout.specs.Places.{Volume, Place, outside, blank, bits, slots, part, per_block, unit_block, block_sector, bitmap_sector, inode_sector, first_data, is_data, place_of, sector_part}
+use Rattle.vx_layout.specs.Places.{Volume, Place, outside, blank, bits, slots, part, per_block, unit_block, first_data, place_of, sector_part}
 use Rattle.vx_layout.specs.Bits.{bits_bytes}
 use Rattle.vx_layout.specs.Inodes.{slot_bytes}
 use Rattle.vx_layout.specs.Dirs.{dir_bytes}
@@ -52,46 +52,23 @@ pub record Says (v : Volume) (p : Parsed) (r : LogState) : Type 0 where
   pub sectors : (s : ℕ) → IsTrue (is_metadata v p s) → IsTrue (r.is_metadata s)
   pub bytes : (s : ℕ) → IsTrue (is_metadata v p s) → r.contents s ≡ contents v p s
 
--- ---- what changes
-
--- the inodes, the directory blocks and the units' bitmaps that may change
-pub record Changes : Type 0 where
-  pub inodes : List ℕ
-  pub blocks : List ℕ
-  pub units : List ℕ
+-- ---- a batch of after-images
 
 abbrev pub among : List ℕ → ℕ → Bool
 among xs x = list_any (λ y. x == y) xs
-
-abbrev pub touches : Changes → Place → Bool
-touches c outside = false
-touches c blank = false
-touches c (bits u) = among c.units u
-touches c (slots k) = among c.inodes (2 * k) || among c.inodes (2 * k + 1)
-touches c (part b index) = among c.blocks b
-
--- nothing else has changed
-pub record SameBut (v : Volume) (old new : Parsed) (c : Changes) : Type 0 where
-  pub inodes : (n : ℕ) → among c.inodes n ≡ false → new.inodes n ≡ old.inodes n
-  pub blocks : (b : ℕ) → among c.blocks b ≡ false → new.blocks b ≡ old.blocks b
-  pub units : (u j : ℕ) → j < 4096 → among c.units u ≡ false → used_in v new u j ≡ used_in v old u j
-
--- ---- a batch of after-images
 
 abbrev pub sectors_in : List AfterImage → ℕ → Bool
 sectors_in [] s = false
 sectors_in (e ∷ es) s = e.0 == s || sectors_in es s
 
--- Each after-image is right for what is said now, and all that is touched has one. A sector may stand there twice, since what is right is one.
-pub record IsBatch (v : Volume) (new : Parsed) (c : Changes) (batch : List AfterImage) : Type 0 where
-  pub right : AllByRecursion (λ e. content_at v new e.0 ≡ Some e.1) batch
-  pub whole : (s : ℕ) → touches c (place_of v s) ≡ true → IfSome (content_at v new s) (λ _. sectors_in batch s ≡ true)
+-- the sector holds what it held before, or no metadata
+abbrev pub IsSame : Volume → Parsed → Parsed → ℕ → Type 0
+IsSame v old new s = IfSome (content_at v new s) (λ bytes. content_at v old s ≡ Some bytes)
 
--- the batch has the sectors of the things that may have changed
-pub record HasSectors (v : Volume) (c : Changes) (batch : List AfterImage) : Type 0 where
-  pub inodes : (n : ℕ) → among c.inodes n ≡ true → n < 128 * v.units → sectors_in batch (inode_sector v n) ≡ true
-  pub blocks : (b i : ℕ) → among c.blocks b ≡ true → IsTrue (is_data v b) → i < per_block v → sectors_in batch (block_sector (per_block v) b + i) ≡ true
-  pub units : (u : ℕ) → among c.units u ≡ true → u < v.units → sectors_in batch (bitmap_sector v u) ≡ true
+-- Each after-image is right for what is said now, and all that has changed has one. A sector may stand there twice, since what is right is one.
+pub record IsBatch (v : Volume) (old new : Parsed) (batch : List AfterImage) : Type 0 where
+  pub right : AllByRecursion (λ e. content_at v new e.0 ≡ Some e.1) batch
+  pub whole : (s : ℕ) → sectors_in batch s ≡ false → IsSame v old new s
 
 -- the image with the batch laid over it
 abbrev pub overlaid : List AfterImage → (ℕ → List ℕ) → ℕ → List ℕ

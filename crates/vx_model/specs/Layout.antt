@@ -1,32 +1,66 @@
 -- What the names take up on the device, as far as directories go.
-use Rattle.std.specs.Prelude.{ℕ, ◌+◌, ◌*◌, Bool, nat_le, List, [], ◌∷◌, ◌++◌, length, Option, Some, None, Ok, if◌then◌else◌}
-use Rattle.std.specs.Option.{unwrap_or}
+use Rattle.std.specs.Prelude.{ℕ, zero, suc, ◌+◌, ◌*◌, Bool, not, ◌&&◌, ◌==◌, nat_le, nat_lt, List, [], ◌∷◌, ◌++◌, map, filter, length, Option, Some, None, is_none, Ok, if◌then◌else◌}
 use Rattle.std.specs.List.{sum_by}
-use Rattle.std.specs.Ordering.{nat_cmp}
-use Rattle.std.specs.FinMap as map
+use Rattle.std.specs.Str.{bytes_eq}
 use Rattle.vx_base.specs.declared.refusal.Refusal.TheVariants as no
 use Rattle.vx_base.specs.declared.inode.DirEntry.{DirEntry}
-use Rattle.vx_model.specs.Outcome.{Maybe, unless}
+use Rattle.vx_base.specs.Paths.{FileName}
+use Rattle.vx_layout.specs.Places.{Volume, is_data}
+use Rattle.vx_model.specs.Outcome.{Maybe, unless, ◌>>=◌, need}
+use Rattle.vx_model.specs.Placement.{page_place}
 
 -- a block of a directory, and its entries in the order in which they stand there
 pub record DirectoryBlock : Type 0 where
   pub block : ℕ
   pub entries : List DirEntry
 
--- for each directory that has a block, its blocks in page order
-abbrev pub Directories : Type 0
-Directories = map.FinMap nat_cmp (List DirectoryBlock)
-
--- the layout state
+-- The layout state. A directory's blocks stand in page order, by its inode number. A block that was freed waits, with the place
+-- of the event that freed it, until the log has passed that event.
 pub record Layout : Type 0 where
   pub log_blocks : ℕ
   pub units : ℕ
   pub directory_limit : ℕ
-  pub directories : Directories
+  pub directories : ℕ → List DirectoryBlock
+  pub pending : ℕ → Option ℕ
 
--- the first data block of unit 0, behind the superblock's block, the log, the bitmap and the inodes
-abbrev pub first_data_block : Layout → ℕ
-first_data_block l = 2 + l.log_blocks + 33
+-- the units stand behind the superblock, the log's head and the log
+abbrev pub volume : Layout → Volume
+volume l = record { block = 1024; first = 2 + l.log_blocks; units = l.units }
+
+abbrev pub blocks_at : Layout → ℕ → List DirectoryBlock
+blocks_at l ino = l.directories ino
+
+abbrev pub block_numbers : List DirectoryBlock → List ℕ
+block_numbers blocks = map (λ (d : DirectoryBlock). d.block) blocks
+
+-- ---- which blocks are free
+
+-- the directory that has a block, and the block's entries
+pub record Claim : Type 0 where
+  pub ino : ℕ
+  pub entries : List DirEntry
+
+abbrev pub claim_among : ℕ → ℕ → List DirectoryBlock → Option Claim
+claim_among n b [] = None
+claim_among n b (d ∷ ds) = if b == d.block then Some (record { ino = n; entries = d.entries }) else claim_among n b ds
+
+abbrev pub or_claim : Option Claim → Option Claim → Option Claim
+or_claim None other = other
+or_claim (Some c) other = Some c
+
+-- the claim of a block by an inode below n
+unfoldable pub claim_below : Layout → ℕ → ℕ → Option Claim
+claim_below l b zero = None
+claim_below l b (suc n) = or_claim (claim_among n b (blocks_at l n)) (claim_below l b n)
+
+abbrev pub claim_of : Layout → ℕ → Option Claim
+claim_of l b = claim_below l b (128 * l.units)
+
+-- a data block that no directory has and that doesn't wait
+unfoldable pub is_free : Layout → ℕ → Bool
+is_free l b = is_data (volume l) b && (is_none (claim_of l b) && is_none (l.pending b))
+
+-- ---- room for an entry
 
 -- the bytes that a block has for entries
 abbrev pub entry_room : ℕ
@@ -50,25 +84,61 @@ abbrev pub with_entry : List DirectoryBlock → DirEntry → Option (List Direct
 with_entry [] e = None
 with_entry (b ∷ bs) e = if has_room b e then Some (record b { entries = b.entries ++ e ∷ [] } ∷ bs) else behind b (with_entry bs e)
 
-abbrev pub blocks_at : Layout → ℕ → List DirectoryBlock
-blocks_at l ino = unwrap_or (map.get l.directories ino) []
+-- ---- an entry more
 
 abbrev pub with_blocks : Layout → ℕ → List DirectoryBlock → Layout
-with_blocks l ino blocks = record l { directories = map.insert l.directories ino blocks }
+with_blocks l ino blocks = record l { directories = λ n. if n == ino then blocks else l.directories n }
 
--- the blocks with a new last one, which no directory has yet
-abbrev pub with_new_block : Layout → ℕ → List DirectoryBlock → DirEntry → Maybe Layout
-with_new_block l ino blocks e =
+abbrev pub last_block : List DirectoryBlock → Option ℕ
+last_block [] = None
+last_block (b ∷ []) = Some b.block
+last_block (b ∷ c ∷ bs) = last_block (c ∷ bs)
+
+-- where a directory's next block goes; `first` is the length that a file's first extent is to have
+unfoldable pub new_block : Layout → ℕ → List DirectoryBlock → Option ℕ
+new_block l first blocks = page_place (volume l) (is_free l) (last_block blocks) first
+
+-- the blocks with a new last one, where the directory may have one more and a block is free
+abbrev pub with_new_block : Layout → ℕ → ℕ → List DirectoryBlock → DirEntry → Maybe Layout
+with_new_block l first ino blocks e =
     unless (nat_le (length blocks + 1) l.directory_limit) (no.TooBig (1024 * (length blocks + 1))) (
-    Ok (with_blocks l ino (blocks ++ record { block = first_data_block l; entries = e ∷ [] } ∷ [])))
+    need (new_block l first blocks) (no.NoSpace 1 0) >>= (λ b.
+    Ok (with_blocks l ino (blocks ++ record { block = b; entries = e ∷ [] } ∷ []))))
 
-abbrev pub filled_or_new : Layout → ℕ → List DirectoryBlock → DirEntry → Option (List DirectoryBlock) → Maybe Layout
-filled_or_new l ino blocks e (Some filled) = Ok (with_blocks l ino filled)
-filled_or_new l ino blocks e None = with_new_block l ino blocks e
-
-abbrev pub add_among : Layout → ℕ → DirEntry → List DirectoryBlock → Maybe Layout
-add_among l ino e blocks = filled_or_new l ino blocks e (with_entry blocks e)
+abbrev pub filled_or_new : Layout → ℕ → ℕ → List DirectoryBlock → DirEntry → Option (List DirectoryBlock) → Maybe Layout
+filled_or_new l first ino blocks e (Some filled) = Ok (with_blocks l ino filled)
+filled_or_new l first ino blocks e None = with_new_block l first ino blocks e
 
 -- the layout with one entry more in a directory, or why there is no place for it
-abbrev pub add_entry : Layout → ℕ → DirEntry → Maybe Layout
-add_entry l ino e = add_among l ino e (blocks_at l ino)
+abbrev pub add_entry : Layout → ℕ → ℕ → DirEntry → Maybe Layout
+add_entry l first ino e = filled_or_new l first ino (blocks_at l ino) e (with_entry (blocks_at l ino) e)
+
+-- ---- an entry less
+
+abbrev pub other_name : FileName → DirEntry → Bool
+other_name name e = not (bytes_eq e.name name)
+
+abbrev pub without_name : FileName → DirectoryBlock → DirectoryBlock
+without_name name b = record b { entries = filter (other_name name) b.entries }
+
+-- a block that has no entry left stays
+abbrev pub remove_entry : Layout → ℕ → FileName → Layout
+remove_entry l ino name = with_blocks l ino (map (without_name name) (blocks_at l ino))
+
+-- ---- blocks that are given up
+
+abbrev pub pended : ℕ → List DirectoryBlock → (ℕ → Option ℕ) → ℕ → Option ℕ
+pended place [] pending b = pending b
+pended place (d ∷ ds) pending b = if b == d.block then Some place else pended place ds pending b
+
+-- an inode's blocks wait, freed by the event at this place
+abbrev pub freed : Layout → ℕ → ℕ → Layout
+freed l place ino = record (with_blocks l ino []) { pending = pended place (blocks_at l ino) l.pending }
+
+abbrev pub kept_pending : ℕ → Option ℕ → Option ℕ
+kept_pending upto None = None
+kept_pending upto (Some place) = if nat_lt place upto then None else Some place
+
+-- what was freed by events at places below `upto` is free
+abbrev pub released : Layout → ℕ → Layout
+released l upto = record l { pending = λ b. kept_pending upto (l.pending b) }

@@ -10,6 +10,7 @@ use Rattle.vx_base.specs.declared.refusal.Refusal.{Refusal}
 use Rattle.vx_base.specs.declared.refusal.Refusal.TheVariants as no
 use Rattle.vx_base.specs.declared.reply.Reply.{Reply}
 use Rattle.vx_base.specs.declared.reply.Reply.TheVariants as say
+use Rattle.vx_model.specs.Layout.{released}
 use Rattle.vx_model.specs.State.{State, Done}
 use Rattle.vx_model.specs.Step.{step}
 
@@ -43,6 +44,11 @@ abbrev pub is_fault : Reply → Bool
 is_fault (say.Refused why) = is_any_time why
 is_fault _ = false
 
+-- a call is refused for want of blocks only where none waits to be free
+abbrev pub is_no_space : Reply → Bool
+is_no_space (say.Refused (no.NoSpace need free)) = true
+is_no_space _ = false
+
 -- the session waits for no call of a line
 abbrev pub is_idle : World → ℕ → Bool
 is_idle w session = not (list_any (λ (v : Waiting). nat_eq v.session session && nat_lt 0 v.line) (map.values w.waiting))
@@ -54,7 +60,8 @@ IfThere (Some x) P = P x
 
 pub record DoAllowed (w : World) (session line : ℕ) (c : Call) (reply : Reply) : Type 0 where
   pub idle : is_idle w session ≡ true
-  pub reply_is : IfThere (step w.state session c) (λ done. (reply ≡ done.reply) ⊎ (is_fault reply ≡ true))
+  pub reply_is : IfThere (step w.state w.next session c) (λ done. (reply ≡ done.reply) ⊎ (is_fault reply ≡ true))
+  pub all_released : is_no_space reply ≡ true → (b : ℕ) → w.state.layout.pending b ≡ None
 
 -- the answer of a call is the reply of its Do, or a device fault
 abbrev pub RetAllowed : Option Waiting → Reply → Type 0
@@ -80,6 +87,7 @@ at_of (event.Unmounted at) = at
 abbrev pub Comes : World → Event → Type 0
 Comes w (event.Do at session line c reply) = DoAllowed w session line c reply
 Comes w (event.Ret at place answer) = RetAllowed (map.get w.waiting place) answer
+Comes w (event.Release at upto) = Unit {0}
 Comes w (event.Unmounted at) = map.len w.waiting ≡ 0
 Comes w _ = ⊥
 
@@ -87,18 +95,22 @@ abbrev pub state_after_step : State → Option Done → State
 state_after_step s None = s
 state_after_step s (Some done) = done.state
 
--- the state after a Do
-abbrev pub state_after : State → ℕ → Call → Reply → State
-state_after s session c reply = if is_fault reply then s else state_after_step s (step s session c)
+-- the state after a Do at this place
+abbrev pub state_after : State → ℕ → ℕ → Call → Reply → State
+state_after s place session c reply = if is_fault reply then s else state_after_step s (step s place session c)
+
+abbrev pub with_released : State → ℕ → State
+with_released s upto = record s { layout = released s.layout upto }
 
 abbrev pub after : World → Event → World
 after w (event.Do at session line c reply) = record w {
   at = at;
   next = w.next + 1;
-  state = state_after w.state session c reply;
+  state = state_after w.state w.next session c reply;
   waiting = map.insert w.waiting w.next (record { session = session; line = line; reply = reply });
 }
 after w (event.Ret at place answer) = record w { at = at; next = w.next + 1; waiting = map.remove w.waiting place }
+after w (event.Release at upto) = record w { at = at; next = w.next + 1; state = with_released w.state upto }
 after w (event.Unmounted at) = record w { at = at; next = w.next + 1; unmounted = true }
 after w e = record w { at = at_of e; next = w.next + 1 }
 
@@ -114,10 +126,3 @@ pub record Allowed (w : World) (e : Event) : Type 0 where
 abbrev pub Legal : World → List Event → Type 0
 Legal w [] = Unit {0}
 Legal w (e ∷ es) = Allowed w e × Legal (after w e) es
-
--- ---- what a history says of its sessions
-
--- the call of a script line of the session
-abbrev pub line_of : ℕ → Event → Option Call
-line_of s (event.Do at session line c reply) = if nat_eq session s && nat_lt 0 line then Some c else None
-line_of s _ = None

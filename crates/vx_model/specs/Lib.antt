@@ -3,9 +3,15 @@ pub mod Tree
 pub mod Codes
 pub mod Paths
 pub mod Walks
+pub mod Placement
 pub mod Layout
 pub mod State
+pub mod Edits
+pub mod Entering
 pub mod Making
+pub mod Removing
+pub mod Linking
+pub mod Moving
 pub mod Naming
 pub mod Step
 pub mod Legal
@@ -13,6 +19,8 @@ pub mod Images
 pub mod Reads
 pub mod Contents
 pub mod LaidOut
+pub mod Touching
+pub mod EditLaws
 pub mod Shapes
 pub mod Replays
 pub mod Allowed

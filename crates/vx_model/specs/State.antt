@@ -1,6 +1,5 @@
 -- What a mount stands for at one moment, and what a call leaves.
-use Rattle.std.specs.Prelude.{ℕ, Ok, Err}
-use Rattle.std.specs.FinMap as map
+use Rattle.std.specs.Prelude.{ℕ, [], None, Ok, Err}
 use Rattle.vx_base.specs.declared.reply.Reply.{Reply}
 use Rattle.vx_base.specs.declared.reply.Reply.TheVariants as say
 use Rattle.vx_model.specs.Outcome.{Maybe}
@@ -25,5 +24,5 @@ settled s (Err why) = record { state = s; reply = say.Refused why }
 abbrev pub fresh : ℕ → ℕ → State
 fresh log_blocks directory_limit = record {
   tree = empty_root;
-  layout = record { log_blocks = log_blocks; units = 1; directory_limit = directory_limit; directories = map.empty };
+  layout = record { log_blocks = log_blocks; units = 1; directory_limit = directory_limit; directories = λ n. []; pending = λ b. None };
 }

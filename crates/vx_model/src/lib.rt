@@ -4,4 +4,3 @@
 pub mod allowed;
 pub mod images;
 pub mod reads;
-pub mod states;
