@@ -4,3 +4,7 @@ pub mod Batches
 pub mod Determined
 pub mod Allowing
 pub mod Replaying
+pub mod Unused
+pub mod Claims
+pub mod Reading
+pub mod Formatting

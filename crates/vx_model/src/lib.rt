@@ -4,3 +4,4 @@
 pub mod allowed;
 pub mod images;
 pub mod reads;
+pub mod states;

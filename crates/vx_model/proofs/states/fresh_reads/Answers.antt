@@ -1,0 +1,11 @@
+use Rattle.vx_model.proofs.Formatting as laws
+use Rattle.vx_model.proofs.states.fresh_reads.Goals as goal
+
+pub returns-clause-laid_out : goal.returns-clause-laid_out
+returns-clause-laid_out c = laws.fresh_laid
+
+pub returns-clause-stands : goal.returns-clause-stands
+returns-clause-stands c = laws.fresh_stands
+
+pub returns-clause-reads : goal.returns-clause-reads
+returns-clause-reads c = laws.fresh_reads
