@@ -1,0 +1,3 @@
+mod NoteOrder
+mod HomeRuns
+pub mod Notes
