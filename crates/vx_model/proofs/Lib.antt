@@ -8,3 +8,10 @@ pub mod Unused
 pub mod Claims
 pub mod Reading
 pub mod Formatting
+pub mod TouchedBatch
+pub mod EditKeeps
+pub mod NameKeeps
+pub mod EditTouches
+pub mod BlockClaims
+pub mod EntryLists
+pub mod NameEdits

@@ -2,6 +2,7 @@
 #![tactic(auto)]
 
 pub mod allowed;
+pub mod edits;
 pub mod images;
 pub mod reads;
 pub mod states;

@@ -1,0 +1,24 @@
+use Rattle.vx_model.proofs.TouchedBatch.{touched_batch}
+use Rattle.vx_model.proofs.EditKeeps as keeps
+use Rattle.vx_model.proofs.NameKeeps as names
+use Rattle.vx_model.proofs.EditTouches as touches
+use Rattle.vx_model.proofs.edits.edit_laws.Goals as goal
+
+pub returns : goal.returns
+returns c = record {
+  added = names.added;
+  added_touches = touches.added_touches;
+  removed = names.removed;
+  removed_touches = touches.removed_touches;
+  file_set = keeps.file_set;
+  directory_set = keeps.directory_set;
+  mode_set = keeps.mode_set;
+  set_touches = touches.set_touches;
+  dropped = keeps.dropped;
+  dropped_touches = touches.dropped_touches;
+  released = keeps.released_laid;
+  released_says = touches.released_says;
+  same = touches.same;
+  next = touches.next;
+  batch = λ old new t batch before after is right has. touched_batch old new t batch before after is has right;
+}
