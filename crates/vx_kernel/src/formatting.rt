@@ -1,18 +1,17 @@
 //! A new file system of one allocation unit.
-ghost use Rattle.std.specs.Prelude.{◌≡◌, ◌<◌, ◌≤◌, ◌+◌, OnOk, OnErr, None, replicate};
+ghost use Rattle.std.specs.Prelude.{◌≡◌, ◌<◌, ◌≤◌, ◌+◌, OnOk, OnErr, []};
 ghost use Rattle.vx_base.specs.Faults.{HasCause};
-ghost use Rattle.vx_run.specs.Devices.{Onward};
+ghost use Rattle.vx_kernel.specs.Devices.{Onward};
 ghost use Rattle.vx_log.specs.Logs.{fresh_log};
 ghost use Rattle.vx_log.specs.Moments.{Told};
 ghost use Rattle.vx_model.specs.State.{fresh};
-ghost use Rattle.vx_run.specs.Formats.{HasUnit};
-ghost use Rattle.vx_run.specs.Journals.{IsKept};
-ghost use Rattle.vx_run.specs.Sectors.{unit_bytes};
-ghost use Rattle.vx_run.specs.States.{new_log_blocks};
+ghost use Rattle.vx_model.specs.Contents.{fresh_root};
+ghost use Rattle.vx_kernel.specs.Formats.{HasUnit, new_bitmap, unit_bytes};
+ghost use Rattle.vx_kernel.specs.Journals.{new_log_blocks, IsKept};
 
 use crate::device::{pass, put};
-use crate::sectors::{bits_of_unit, directory_value};
-use vx_codec::inode_sector;
+use vx_base::{ExtAttrs, FileKind, Inode, InodeValue};
+use vx_codec::{inode_sector, write_bits};
 use vx_dev::{BlockDev, DevFault, tape_laws};
 use vx_layout::{Super, super_places};
 use vx_log::head_sector;
@@ -35,13 +34,47 @@ pub fn superblock(clean: bool) -> Super
     }
 }
 
+/// The bitmap of a new unit: its own block and those of the inodes are in use.
+fn new_bitmap() -> [u8; 512]
+    ensures { result ≡ new_bitmap }
+{
+    let mut used = [false; 4096];
+    for j in 0..33 {
+        used[j] = true;
+    }
+    write_bits(&used)
+}
+
+/// The inode of an empty root.
+fn new_root() -> InodeValue
+    ensures { result ≡ fresh_root }
+{
+    InodeValue {
+        inode: Inode {
+            kind: FileKind::Directory,
+            mode: ROOT_MODE,
+            nlink: 1,
+            size: 0,
+            attrs: ExtAttrs {
+                fixed: 0,
+                reserve: 0,
+                flags: 0,
+            },
+        },
+        maps: 0,
+        extents: 0,
+        first: [None; 6],
+        map: None,
+    }
+}
+
 /// The sector with this number of a new unit.
 fn unit_sector(i: u64) -> [u8; 512]
     ensures { result ≡ unit_bytes i }
 {
     match i {
-        0 => bits_of_unit(false),
-        3 => inode_sector(Some(&directory_value(ROOT_MODE, &[])), None),
+        0 => new_bitmap(),
+        3 => inode_sector(Some(&new_root()), None),
         _ => [0; 512],
     }
 }
@@ -69,7 +102,7 @@ pub fn format<D: BlockDev>(dev: &mut D) -> Result<(), DevFault>
     ensures onward { Onward (D.state dev.old) (D.state dev.new) }
     ensures count { OnOk result ((D.state dev.new).count ≡ (D.state dev.old).count + 70) }
     ensures fewer { OnErr result ((D.state dev.new).count < (D.state dev.old).count + 70) }
-    ensures kept { OnOk result (Told (D.state dev.new) (IsKept (fresh_log 1024) (replicate 68 None) (fresh new_log_blocks 1))) }
+    ensures kept { OnOk result (Told (D.state dev.new) (IsKept (fresh_log 1024) [] (fresh new_log_blocks 1))) }
     ensures cause { HasCause (D.state dev.old).write_faults (D.state dev.new).write_faults result }
 {
     // The proof rests on these laws; nothing runs here.

@@ -1,25 +1,28 @@
 -- What a journal rests on: laws of the tape, of the log and of images, as it uses them.
-use Rattle.std.specs.Prelude.{◌≡◌, ◌≢◌, ◌⊎◌, ◌<◌, ◌≤◌, ◌^◌, ℕ, Bool, false, IsTrue, List, length, Contains}
+use Rattle.std.specs.Prelude.{◌≡◌, ◌≢◌, ◌⊎◌, ◌<◌, ◌≤◌, ◌^◌, ◌+◌, option_map, ℕ, Bool, false, IsTrue, List, length, Contains}
 use Rattle.std.specs.List.{AllByRecursion}
 use Rattle.vx_dev.specs.declared.device.Operation.{Operation}
 use Rattle.vx_dev.specs.declared.device.Operation.TheVariants.{Barrier}
 use Rattle.vx_dev.specs.Laws.{TapeLaws}
 use Rattle.vx_dev.specs.Tape.{Tape, State as Device, Writes, did, IsImage}
 use Rattle.vx_layout.specs.LogForms.{AfterImage, IsRecord, LogState, ReadsAs, log_length, body_of, records_of, overlay, overlay_all}
-use Rattle.vx_layout.specs.Places.{Volume}
+use Rattle.vx_layout.specs.Dirs.{dir_bytes}
+use Rattle.vx_layout.specs.Places.{Volume, is_data, block_sector, sector_part}
 use Rattle.vx_layout.specs.Supers.{volume_of}
 use Rattle.vx_log.specs.Batches.{sectors_of}
 use Rattle.vx_log.specs.Crashes.{Stands, IsDecided, IsFree}
 use Rattle.vx_log.specs.Moments.{Told, Passed}
 use Rattle.vx_log.specs.Runs.{Ran, BrokeOff, puts}
 use Rattle.vx_log.specs.Stages.{AreHomes, AreWritten}
-use Rattle.vx_model.specs.Contents.{volume, parsed_of}
+use Rattle.vx_model.specs.Contents.{parsed_of}
+use Rattle.vx_model.specs.Layout.{volume}
 use Rattle.vx_model.specs.Images as images
-use Rattle.vx_model.specs.Images.{Parsed, is_metadata, Changes, SameBut, IsBatch, Says}
+use Rattle.vx_model.specs.Images.{Parsed, content_at, is_metadata, IsBatch, Says}
 use Rattle.vx_model.specs.LaidOut.{IsLaidOut}
 use Rattle.vx_model.specs.Reads.{ImageReadsAs}
 use Rattle.vx_model.specs.State.{State}
-use Rattle.vx_run.specs.Journals.{superblock_of}
+use Rattle.vx_home.specs.NoteLaws.{NoteLaws}
+use Rattle.vx_kernel.specs.Journals.{superblock_of}
 
 -- the volume of each new file system
 abbrev pub unit_volume : Volume
@@ -29,10 +32,12 @@ pub record JournalLaws : Type 0 where
   -- ---- images
   pub past_log : (p : Parsed) (s : ℕ) → IsTrue (is_metadata unit_volume p s) → 1028 ≤ s
   pub says_stands : (p : Parsed) (r : LogState) (image : ℕ → List ℕ) → Says unit_volume p r → ReadsAs 1024 r image → images.Stands unit_volume p (λ s. overlay_all r.records s (image s))
-  pub says_next : (old new : Parsed) (c : Changes) (batch : List AfterImage) (r next : LogState) → Says unit_volume old r → SameBut unit_volume old new c → IsBatch unit_volume new c batch
+  pub says_next : (old new : Parsed) (batch : List AfterImage) (r next : LogState) → Says unit_volume old r → IsBatch unit_volume old new batch
       → ((s : ℕ) → IsTrue (is_metadata unit_volume new s) → IsTrue (next.is_metadata s)) → ((s : ℕ) → next.contents s ≡ overlay batch s (r.contents s)) → Says unit_volume new next
-  pub covered : (old new : Parsed) (c : Changes) (batch : List AfterImage) → SameBut unit_volume old new c → IsBatch unit_volume new c batch
+  pub covered : (old new : Parsed) (batch : List AfterImage) → IsBatch unit_volume old new batch
       → (s : ℕ) → IsTrue (is_metadata unit_volume new s) → IsTrue (is_metadata unit_volume old s) ⊎ ((x y : List ℕ) → overlay batch s x ≡ overlay batch s y)
+  pub parts : (p : Parsed) (b i : ℕ) → IsTrue (is_data unit_volume b) → i < 2
+      → content_at unit_volume p (block_sector 2 b + i) ≡ option_map (λ es. sector_part i (dir_bytes 1024 es)) (p.blocks b)
   pub reads : (s : State) (image : ℕ → List ℕ) → IsLaidOut s → images.Stands (volume s.layout) (parsed_of s) image → ImageReadsAs (volume s.layout) image s.tree
   -- ---- batches
   pub records : (batch : List AfterImage) (s : ℕ) (x : List ℕ) → overlay_all (records_of batch) s x ≡ overlay batch s x
@@ -51,3 +56,5 @@ pub record JournalLaws : Type 0 where
       → Told old (Stands 1024 r) → Passed (ReadsAs 1024 r) old new
   -- ---- the tape
   pub tape : TapeLaws
+  -- ---- what is noted
+  pub notes : NoteLaws

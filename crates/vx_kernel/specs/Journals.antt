@@ -1,25 +1,30 @@
 -- A journal between two transactions, and what it knows of its device.
 use Rattle.std.specs.List.{AllByRecursion}
-use Rattle.std.specs.Prelude.{◌^◌, ◌≡◌, ◌-◌, ◌≤◌, ℕ, Bool, false, IsTrue, nat_lt, List, [], get_or, Option, Some, None, if◌then◌else◌}
+use Rattle.std.specs.Prelude.{◌^◌, ◌≡◌, ◌+◌, ◌<◌, ◌≤◌, ℕ, Bool, true, false, IsTrue, List, [], length, All, Option, Some, None}
 use Rattle.vx_dev.specs.Tape.{Tape, MayHold, now}
-use Rattle.vx_layout.specs.LogForms.{IsRecord, LogState, overlay_all}
+use Rattle.vx_layout.specs.LogForms.{AfterImage, IsRecord, LogState, overlay_all}
+use Rattle.vx_layout.specs.Places.{block_sector}
 use Rattle.vx_layout.specs.Supers.{super_bytes}
 use Rattle.vx_layout.specs.declared.superblock.Super.{Super}
 use Rattle.vx_log.specs.Crashes.{Stands, IsDecided}
 use Rattle.vx_log.specs.Logs.{LogView}
-use Rattle.vx_model.specs.Contents.{volume, parsed_of}
-use Rattle.vx_model.specs.Images.{Says}
-use Rattle.vx_model.specs.LaidOut.{IsLaidOut, Makes}
+use Rattle.vx_home.specs.Homes.{noted_at}
+use Rattle.vx_model.specs.Contents.{parsed_of}
+use Rattle.vx_model.specs.Images.{IsBatch, Says}
+use Rattle.vx_model.specs.Layout.{volume, is_free}
+use Rattle.vx_model.specs.LaidOut.{IsLaidOut}
 use Rattle.vx_model.specs.Replays.{IsClean}
-use Rattle.vx_model.specs.State.{State, Done}
-use Rattle.vx_model.specs.Tree.{Tree, new_file, lowest_unused}
-use Rattle.vx_run.specs.States.{new_log_blocks}
-use Rattle.vx_run.specs.declared.kernel.Journal.{Journal}
+use Rattle.vx_model.specs.State.{State}
+use Rattle.vx_model.specs.Tree.{Tree}
+use Rattle.vx_kernel.specs.Devices.{IsInside}
+use Rattle.vx_kernel.specs.declared.journal.Journal.{Journal}
 
--- no batch is being written
+-- no batch is being written, and the log has more sectors than are noted
 pub record IsIdle (journal : Journal) : Type 0 where
   pub closing : journal.log.closing ≡ None
   pub sectors : journal.log.sectors ≡ 1024
+  pub few : journal.log.tail + length journal.homes ≤ journal.log.head
+  pub inside : All IsInside journal.homes
 
 -- and there is an empty one for the next transaction
 pub record IsAtRest (journal : Journal) : Type 0 where
@@ -27,6 +32,10 @@ pub record IsAtRest (journal : Journal) : Type 0 where
   pub ready : journal.ready ≡ Some []
 
 -- ---- the states that a mount comes to
+
+-- the log's blocks of every new file system
+abbrev pub new_log_blocks : ℕ
+new_log_blocks = 512
 
 pub record IsMounted (s : State) : Type 0 where
   pub laid_out : IsLaidOut s
@@ -37,16 +46,12 @@ pub record IsMounted (s : State) : Type 0 where
 abbrev pub superblock_of : Bool → Super
 superblock_of clean = record { log_blocks = new_log_blocks; units = 1; clean = clean }
 
--- a create of the inode `made` has led from the one state to the other
-pub record IsMade (s new : State) (made : ℕ) : Type 0 where
+-- a transaction leads from the one state to the other, and frees no block
+pub record IsChange (s new : State) (batch : List AfterImage) : Type 0 where
   pub mounted : IsMounted s
   pub new_mounted : IsMounted new
-  pub mode : ℕ
-  pub mode_limit : mode ≤ 4095
-  pub done : Done
-  pub makes : Makes s (new_file mode) done
-  pub state_is : new ≡ done.state
-  pub made_is : made ≡ lowest_unused s.layout.units s.tree.nodes
+  pub is_batch : IsBatch (volume new.layout) (parsed_of s) (parsed_of new) batch
+  pub frees_none : (b : ℕ) → is_free new.layout b ≡ true → is_free s.layout b ≡ true
 
 -- ---- the device
 
@@ -58,17 +63,18 @@ pub record IsReadingOf (s : State) (r : LogState) : Type 0 where
   pub limit : r.head ≤ 2 ^ 62
   pub form : AllByRecursion IsRecord r.records
 
--- the image that is noted for sector s
-abbrev pub noted_at : List (Option (List ℕ)) → ℕ → Option (List ℕ)
-noted_at homes s = if nat_lt s 1028 then None else get_or homes (s - 1028) None
+-- no record names the sector
+abbrev pub IsUnnamed : List (List AfterImage) → ℕ → Type 0
+IsUnnamed records s = (x : List ℕ) → overlay_all records s x ≡ x
 
 -- what is noted of a sector that the records name is what it is to hold; where nothing is noted, no record names it
 abbrev pub IsNoted : LogState → ℕ → Option (List ℕ) → Type 0
 IsNoted r s (Some image) = IsTrue (r.is_metadata s) × IsDecided r.records s × (image ≡ r.contents s)
-IsNoted r s None = (x : List ℕ) → overlay_all r.records s x ≡ x
+IsNoted r s None = IsUnnamed r.records s
 
--- Whatever a crash leaves now reads as this state, with the log's records laid over it; and each sector that is not home yet is noted.
-pub record IsKept (log : LogView) (homes : List (Option (List ℕ))) (s : State) (t : Tape) : Type 0 where
+-- Whatever a crash leaves now reads as this state, with the log's records laid over it; each sector that is not home yet is noted;
+-- and no record names a free block, so that what is put there later stays.
+pub record IsKept (log : LogView) (homes : List AfterImage) (s : State) (t : Tape) : Type 0 where
   pub reading : LogState
   pub serial : reading.serial ≡ log.serial
   pub tail : reading.tail ≡ log.tail
@@ -76,6 +82,7 @@ pub record IsKept (log : LogView) (homes : List (Option (List ℕ))) (s : State)
   pub is_reading : IsReadingOf s reading
   pub stands : Stands 1024 reading t
   pub noted : (q : ℕ) → IsNoted reading q (noted_at homes q)
+  pub apart : (b i : ℕ) → is_free s.layout b ≡ true → i < 2 → IsUnnamed reading.records (block_sector 2 b + i)
 
 -- a crash leaves one image, which is clean and reads as the tree
 pub record IsLeft (tree : Tree) (t : Tape) : Type 0 where

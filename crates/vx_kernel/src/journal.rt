@@ -1,24 +1,21 @@
-//! The device with its log: commits, homes and unmounting.
-ghost use Rattle.std.specs.Prelude.{◌≡◌, ◌⊎◌, ◌<◌, ◌≤◌, ◌+◌, ◌^◌, OnOk, OnErr, IfOk, None, length, replicate, All, ℕ};
+//! The log and the homes of a mount: commits, the emptying of the log, and unmounting.
+ghost use Rattle.std.specs.Prelude.{◌≡◌, ◌⊎◌, ◌<◌, ◌≤◌, ◌+◌, ◌^◌, OnOk, OnErr, IfOk, IsTrue, None, [], length, All, ℕ, true};
 ghost use Rattle.vx_base.specs.Faults.{HasCause};
+ghost use Rattle.vx_layout.specs.LogForms.{log_length};
 ghost use Rattle.vx_log.specs.Logs.{fresh_log};
 ghost use Rattle.vx_log.specs.Moments.{Told, Passed};
+ghost use Rattle.vx_model.specs.Legal.{with_released};
 ghost use Rattle.vx_model.specs.Replays.{ReplaysAs};
 ghost use Rattle.vx_model.specs.State.{State};
-ghost use Rattle.vx_run.specs.Devices.{Onward};
-ghost use Rattle.vx_run.specs.Noted.{with_notes};
+ghost use Rattle.vx_kernel.specs.Devices.{Onward, IsInside};
 
 use crate::device::{pass, put};
-use crate::format::{LOG_BLOCKS, superblock};
-use crate::homes::Homes;
+use crate::formatting::{LOG_BLOCKS, superblock};
 use crate::laws::journal_laws;
-use crate::metadata::Metadata;
-use crate::sectors::stage;
 use std::alloc::{AllocError, Global};
-use vx_base::SectorNo;
 use vx_dev::{BlockDev, DevFault};
-use vx_log::{Batch, Log, log_length};
-use vx_model::states::make_changes;
+use vx_home::Homes;
+use vx_log::{Batch, Log};
 
 /// What a mount needs beside its device to make transactions durable.
 #[derive(Drop)]
@@ -30,14 +27,13 @@ pub struct Journal {
 }
 
 impl Journal {
-    ghost use Rattle.vx_run.specs.Journals.{IsAtRest, IsIdle, IsMounted, IsMade, IsKept, IsLeft};
-    ghost use Rattle.vx_run.specs.Metadata.{state_of};
+    ghost use Rattle.vx_kernel.specs.Journals.{IsAtRest, IsIdle, IsMounted, IsChange, IsKept, IsLeft};
 
     /// The journal of a new file system. It takes all the memory that it ever needs.
     pub fn new(alloc: Global) -> Result<Self, AllocError>
         ensures rest { IfOk result IsAtRest }
         ensures log { IfOk result (λ journal. journal.log ≡ fresh_log 1024) }
-        ensures homes { IfOk result (λ journal. journal.homes ≡ replicate 68 None) }
+        ensures homes { IfOk result (λ journal. journal.homes ≡ []) }
     {
         let log = Log::fresh(alloc, LOG_BLOCKS)?;
         let homes = Homes::new(alloc)?;
@@ -45,43 +41,48 @@ impl Journal {
         Ok(Journal { log, homes, ready })
     }
 
+    /// The emptied batch, for the next transaction.
+    pub fn take_ready(&mut self) -> Batch
+        requires { IsAtRest self.old }
+        ensures empty { result ≡ [] }
+        ensures idle { IsIdle self.new }
+        ensures log { self.new.log ≡ self.old.log }
+        ensures homes { self.new.homes ≡ self.old.homes }
+    {
+        match self.ready.take() {
+            Some(batch) => batch,
+            None => unreachable!(),
+        }
+    }
+
     /// Makes a transaction durable: its sectors go into the log, and the head sector then names them.
-    pub fn commit<D: BlockDev>(
-        &mut self,
-        dev: &mut D,
-        metadata: &Metadata,
-        made: u32,
-    ) -> Result<(), DevFault>
-        requires rest { IsAtRest self.old }
+    pub fn commit<D: BlockDev>(&mut self, dev: &mut D, batch: Batch) -> Result<(), DevFault>
+        requires idle { IsIdle self.old }
         requires size { 9220 ≤ (D.state dev.old).size }
-        requires inode { made < 128 }
-        requires limit { self.old.log.head + 6 ≤ 2 ^ 62 }
+        requires some { 0 < length batch }
+        requires inside { All IsInside batch }
+        requires room { self.old.log.head + log_length (length batch) ≤ self.old.log.tail + 1024 }
+        requires limit { self.old.log.head + log_length (length batch) ≤ 2 ^ 62 }
         ensures rest { OnOk result (IsAtRest self.new) }
-        ensures head { self.new.log.head ≤ self.old.log.head + 6 }
-        ensures kept { (s : State) → IsMade s (state_of metadata.now) made → Told (D.state dev.old) (IsKept self.old.log self.old.homes s)
-            → OnOk result (Told (D.state dev.new) (IsKept self.new.log self.new.homes (state_of metadata.now))) }
-        ensures passed { (s : State) → IsMade s (state_of metadata.now) made → Told (D.state dev.old) (IsKept self.old.log self.old.homes s)
-            → Passed (λ image. ReplaysAs image s.tree ⊎ ReplaysAs image (state_of metadata.now).tree) (D.state dev.old) (D.state dev.new) }
+        ensures head { self.new.log.head ≤ self.old.log.head + log_length (length batch) }
+        ensures kept { (s new : State) → IsChange s new batch → Told (D.state dev.old) (IsKept self.old.log self.old.homes s)
+            → OnOk result (Told (D.state dev.new) (IsKept self.new.log self.new.homes new)) }
+        ensures passed { (s new : State) → IsChange s new batch → Told (D.state dev.old) (IsKept self.old.log self.old.homes s)
+            → Passed (λ image. ReplaysAs image s.tree ⊎ ReplaysAs image new.tree) (D.state dev.old) (D.state dev.new) }
         ensures onward { Onward (D.state dev.old) (D.state dev.new) }
         ensures cause { HasCause (D.state dev.old).write_faults (D.state dev.new).write_faults result }
     {
         // What the proof rests on; nothing is done here.
         journal_laws();
-        make_changes();
-        let Some(mut batch) = self.ready.take() else {
-            unreachable!()
-        };
-        stage(&mut batch, metadata, made);
-        self.make_room(dev, log_length(batch.len()))?;
-        let _places = self.homes.len();
-        note_all(&mut self.homes, batch.entries());
+        let _count = batch.len();
+        self.homes.note_all(batch.entries());
         self.log.commit(dev, batch)?;
         self.ready = self.log.take_back();
         Ok(())
     }
 
-    /// Empties the log where it has no room for so many sectors.
-    fn make_room<D: BlockDev>(&mut self, dev: &mut D, sectors: u32) -> Result<(), DevFault>
+    /// Empties the log where it has no room for so many sectors, and answers whether it did.
+    pub fn make_room<D: BlockDev>(&mut self, dev: &mut D, sectors: u32) -> Result<bool, DevFault>
         requires idle { IsIdle self.old }
         requires few { sectors ≤ 1024 }
         requires size { 9220 ≤ (D.state dev.old).size }
@@ -91,6 +92,8 @@ impl Journal {
         ensures head { self.new.log.head ≡ self.old.log.head }
         ensures kept { (s : State) → IsMounted s → Told (D.state dev.old) (IsKept self.old.log self.old.homes s)
             → OnOk result (Told (D.state dev.new) (IsKept self.new.log self.new.homes s)) }
+        ensures released { (s : State) (upto : ℕ) → IsMounted s → Told (D.state dev.old) (IsKept self.old.log self.old.homes s)
+            → IfOk result (λ emptied. IsTrue emptied → Told (D.state dev.new) (IsKept self.new.log self.new.homes (with_released s upto))) }
         ensures passed { (s : State) → IsMounted s → Told (D.state dev.old) (IsKept self.old.log self.old.homes s)
             → Passed (λ image. ReplaysAs image s.tree) (D.state dev.old) (D.state dev.new) }
         ensures onward { Onward (D.state dev.old) (D.state dev.new) }
@@ -98,9 +101,10 @@ impl Journal {
     {
         journal_laws();
         if self.log.room() < sectors {
-            return self.empty(dev);
+            self.empty(dev)?;
+            return Ok(true);
         }
-        Ok(())
+        Ok(false)
     }
 
     /// Writes all homes and moves the log's tail to its head, where the log has anything.
@@ -113,6 +117,8 @@ impl Journal {
         ensures head { self.new.log.head ≡ self.old.log.head }
         ensures kept { (s : State) → IsMounted s → Told (D.state dev.old) (IsKept self.old.log self.old.homes s)
             → OnOk result (Told (D.state dev.new) (IsKept self.new.log self.new.homes s)) }
+        ensures released { (s : State) (upto : ℕ) → IsMounted s → Told (D.state dev.old) (IsKept self.old.log self.old.homes s)
+            → OnOk result (Told (D.state dev.new) (IsKept self.new.log self.new.homes (with_released s upto))) }
         ensures passed { (s : State) → IsMounted s → Told (D.state dev.old) (IsKept self.old.log self.old.homes s)
             → Passed (λ image. ReplaysAs image s.tree) (D.state dev.old) (D.state dev.new) }
         ensures onward { Onward (D.state dev.old) (D.state dev.new) }
@@ -128,7 +134,7 @@ impl Journal {
 
     /// Empties the log and leaves the file system clean.
     pub fn unmount<D: BlockDev>(&mut self, dev: &mut D) -> Result<(), DevFault>
-        requires rest { IsAtRest self.old }
+        requires idle { IsIdle self.old }
         requires size { 9220 ≤ (D.state dev.old).size }
         ensures clean { (s : State) → IsMounted s → Told (D.state dev.old) (IsKept self.old.log self.old.homes s)
             → OnOk result (Told (D.state dev.new) (IsLeft s.tree)) }
@@ -141,15 +147,5 @@ impl Journal {
         self.empty(dev)?;
         put(dev, 0, &superblock(true).write())?;
         pass(dev)
-    }
-}
-
-/// Notes what the sectors of a transaction are to hold.
-fn note_all(homes: &mut Homes, entries: &[(SectorNo, [u8; 512])])
-    requires { All (λ e. (1028 ≤ e.0) × (e.0 < 1096)) entries.now }
-    ensures { homes.new ≡ with_notes homes.old entries.now }
-{
-    for entry in entries {
-        homes.note(entry.0, &entry.1);
     }
 }

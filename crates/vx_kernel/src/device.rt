@@ -3,7 +3,7 @@ ghost use Rattle.std.specs.Prelude.{◌≡◌, ◌<◌, ◌≤◌, ◌+◌, ◌^
 ghost use Rattle.vx_base.specs.Faults.{HasCause};
 ghost use Rattle.vx_dev.specs.Tape.{Did, DidNothing, Failed};
 ghost use Rattle.vx_dev.specs.declared.device.Operation.TheVariants.{Put, Barrier};
-ghost use Rattle.vx_run.specs.Devices.{Onward};
+ghost use Rattle.vx_kernel.specs.Devices.{Onward};
 
 use vx_dev::{BlockDev, DevFault};
 

@@ -1,0 +1,4 @@
+pub mod Devices
+pub mod Journals
+pub mod JournalLaws
+pub mod Formats

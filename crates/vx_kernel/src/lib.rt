@@ -1,0 +1,11 @@
+//! The journal of a mount: what it keeps on the device, from the format to the unmounting, so that a crash at any moment leaves the
+//! tree before a transaction or after it.
+#![tactic(auto)]
+
+mod device;
+mod formatting;
+mod journal;
+mod laws;
+
+pub use formatting::format;
+pub use journal::Journal;
