@@ -1,6 +1,7 @@
 -- What a script asks for.
-use Rattle.std.specs.Prelude.{◌≡◌, ◌≢◌, ℕ, ◌+◌, ◌-◌, ◌*◌, ◌≤◌, Bool, true, false, ◌&&◌, ◌||◌, not, ◌==◌, nat_lt, nat_le, List, [], ◌∷◌, length, take, drop, fold, All, codes, count_by, Option, Some, None, Result, Ok, Err, if◌then◌else◌}
+use Rattle.std.specs.Prelude.{◌≢◌, ℕ, ◌+◌, ◌-◌, ◌*◌, ◌≤◌, Bool, true, false, ◌&&◌, ◌||◌, not, ◌==◌, nat_lt, nat_le, List, [], ◌∷◌, length, take, drop, fold, All, codes, count_by, Option, Some, None, option_map, Result, Ok, Err, if◌then◌else◌}
 use Rattle.std.specs.List.{before_first, after_first, list_all}
+use Rattle.std.specs.Option.{option_zip}
 use Rattle.std.specs.Str.{bytes_eq}
 use Rattle.vx_base.specs.declared.call.Call.{Call}
 use Rattle.vx_base.specs.declared.call.Call.TheVariants as call
@@ -13,21 +14,16 @@ use Rattle.vx_script.specs.Lines.{lines_of}
 abbrev pub is_space : ℕ → Bool
 is_space b = b == 32
 
--- a printed byte that is neither a slash nor a backslash
-abbrev pub is_name_byte : ℕ → Bool
-is_name_byte b = nat_le 33 b && nat_le b 126 && not (b == 47) && not (b == 92)
+-- a printed byte other than a backslash
+abbrev pub is_path_byte : ℕ → Bool
+is_path_byte b = nat_le 33 b && nat_le b 126 && not (b == 92)
 
-abbrev pub is_dots : List ℕ → Bool
-is_dots name = bytes_eq name (codes ".") || bytes_eq name (codes "..")
+-- one such byte or more; only the call says whether the path is legal
+abbrev pub is_path : List ℕ → Bool
+is_path word = nat_le 1 (length word) && list_all is_path_byte word
 
-unfoldable pub is_name : List ℕ → Bool
-is_name name =
-    nat_le 1 (length name) && nat_le (length name) 255 && list_all is_name_byte name && not (is_dots name)
-
--- a slash and a name
-unfoldable pub is_path : List ℕ → Bool
-is_path [] = false
-is_path (b ∷ name) = b == 47 && is_name name
+unfoldable pub path_of : List ℕ → Option (List ℕ)
+path_of word = if is_path word then Some word else None
 
 abbrev pub is_octal_digit : ℕ → Bool
 is_octal_digit b = nat_le 48 b && nat_le b 55
@@ -42,21 +38,35 @@ octal_value digits = fold (λ value digit. value * 8 + (digit - 48)) 0 digits
 unfoldable pub mode_of : List ℕ → Option ℕ
 mode_of digits = if is_mode digits then Some (octal_value digits) else None
 
+-- a path, a space and a mode
+unfoldable pub path_and_mode_of : List ℕ → Option (List ℕ × ℕ)
+path_and_mode_of words = option_zip (path_of (before_first is_space words)) (mode_of (after_first is_space words))
+
+-- two paths, a space between them
+unfoldable pub two_paths_of : List ℕ → Option (List ℕ × List ℕ)
+two_paths_of words = option_zip (path_of (before_first is_space words)) (path_of (after_first is_space words))
+
 -- ---- lines
 
-abbrev pub create : List ℕ → Option ℕ → Option Call
-create path None = None
-create path (Some mode) = if is_path path then Some (call.Create path mode) else None
+-- the call of a command and the words after it
+unfoldable pub call_of_words : (command words : List ℕ) → Option Call
+call_of_words command words =
+    if bytes_eq command (codes "create") then option_map (λ w. call.Create w.0 w.1) (path_and_mode_of words)
+    else if bytes_eq command (codes "mkdir") then option_map (λ w. call.Mkdir w.0 w.1) (path_and_mode_of words)
+    else if bytes_eq command (codes "chmod") then option_map (λ w. call.Chmod w.0 w.1) (path_and_mode_of words)
+    else if bytes_eq command (codes "unlink") then option_map call.Unlink (path_of words)
+    else if bytes_eq command (codes "rmdir") then option_map call.Rmdir (path_of words)
+    else if bytes_eq command (codes "stat") then option_map call.Stat (path_of words)
+    else if bytes_eq command (codes "list") then option_map call.List (path_of words)
+    else if bytes_eq command (codes "link") then option_map (λ w. call.Link w.0 w.1) (two_paths_of words)
+    else if bytes_eq command (codes "rename") then option_map (λ w. call.Rename w.0 w.1) (two_paths_of words)
+    else None
 
--- the words of a create: its path, a space and its mode
-unfoldable pub create_of : List ℕ → Option Call
-create_of words = create (before_first is_space words) (mode_of (after_first is_space words))
-
--- the call of a line; none where the line has another form
+-- the call of a line, which is a 0, a command and its words, one space apart; none where it has another form
 unfoldable pub call_of : List ℕ → Option Call
 call_of line =
-    if bytes_eq line (codes "0 list /") then Some (call.List (codes "/"))
-    else (if bytes_eq (take 9 line) (codes "0 create ") then create_of (drop 9 line) else None)
+    let rest = drop 2 line in
+    if bytes_eq (take 2 line) (codes "0 ") then call_of_words (before_first is_space rest) (after_first is_space rest) else None
 
 -- ---- the script
 
@@ -107,21 +117,20 @@ script_of bytes = if nat_lt most_bytes (length bytes) then Err TooLong else call
 
 -- ---- what may stand in a script
 
-pub record IsScriptName (name : List ℕ) : Type 0 where
-  pub at_least_one : 1 ≤ length name
-  pub at_most : length name ≤ 255
-  pub printed : All (λ b. (33 ≤ b) × (b ≤ 126) × (b ≢ 47) × (b ≢ 92)) name
-  pub not_dot : name ≢ codes "."
-  pub not_dot_dot : name ≢ codes ".."
-
 pub record IsScriptPath (path : List ℕ) : Type 0 where
-  pub name : List ℕ
-  pub slash : path ≡ 47 ∷ name
-  pub is_name : IsScriptName name
+  pub at_least_one : 1 ≤ length path
+  pub printed : All (λ b. (33 ≤ b) × (b ≤ 126) × (b ≢ 92)) path
 
 abbrev pub IsScriptCall : Call → Type 0
 IsScriptCall (call.Create path mode) = IsScriptPath path × (mode ≤ 4095)
-IsScriptCall (call.List path) = path ≡ codes "/"
+IsScriptCall (call.Mkdir path mode) = IsScriptPath path × (mode ≤ 4095)
+IsScriptCall (call.Chmod path mode) = IsScriptPath path × (mode ≤ 4095)
+IsScriptCall (call.Unlink path) = IsScriptPath path
+IsScriptCall (call.Rmdir path) = IsScriptPath path
+IsScriptCall (call.Stat path) = IsScriptPath path
+IsScriptCall (call.List path) = IsScriptPath path
+IsScriptCall (call.Link old new) = IsScriptPath old × IsScriptPath new
+IsScriptCall (call.Rename old new) = IsScriptPath old × IsScriptPath new
 IsScriptCall _ = ⊥
 
 -- the calls of a script

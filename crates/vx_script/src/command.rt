@@ -1,7 +1,7 @@
 //! The words of a line.
 ghost use Rattle.std.specs.Prelude.{◌≡◌, IfOk, IsTrue};
 ghost use Rattle.std.specs.List.{list_all};
-ghost use Rattle.vx_script.specs.Script.{is_dots, is_name_byte, is_octal_digit, is_name, is_path, is_mode, octal_value as value_of_octal, mode_of, create_of, call_of};
+ghost use Rattle.vx_script.specs.Script.{is_path_byte, is_path, is_octal_digit, is_mode, octal_value as value_of_octal, path_of, mode_of, path_and_mode_of, two_paths_of, call_of_words, call_of};
 
 use crate::lines::cut_at;
 use std::alloc::{AllocError, Global};
@@ -12,58 +12,79 @@ use vx_base::{Bytes, Call};
 pub fn call_of_line(alloc: Global, line: &[u8]) -> Result<Option<Call>, AllocError>
     ensures { IfOk result (λ call. call ≡ call_of line.now) }
 {
-    if line == b"0 list /".as_slice() {
-        let path = Bytes::from_slice(alloc, b"/")?;
-        return Ok(Some(Call::List { path }));
-    }
-    match line.strip_prefix(b"0 create ") {
-        Some(words) => create_of_words(alloc, words),
+    match line.strip_prefix(b"0 ") {
+        Some(rest) => {
+            let (command, words) = cut_at(rest, b' ');
+            call_of_command(alloc, command, words)
+        }
         None => Ok(None),
     }
 }
 
-#[tactic(auto, unfolding(crate::specs::Script::create_of))]
-fn create_of_words(alloc: Global, words: &[u8]) -> Result<Option<Call>, AllocError>
-    ensures { IfOk result (λ call. call ≡ create_of words.now) }
+#[tactic(auto, unfolding(crate::specs::Script::call_of_words))]
+fn call_of_command(alloc: Global, command: &[u8], words: &[u8]) -> Result<Option<Call>, AllocError>
+    ensures { IfOk result (λ call. call ≡ call_of_words command.now words.now) }
+{
+    if command == b"create".as_slice() {
+        Ok(path_and_mode(alloc, words)?.map(|(path, mode)| Call::Create { path, mode }))
+    } else if command == b"mkdir".as_slice() {
+        Ok(path_and_mode(alloc, words)?.map(|(path, mode)| Call::Mkdir { path, mode }))
+    } else if command == b"chmod".as_slice() {
+        Ok(path_and_mode(alloc, words)?.map(|(path, mode)| Call::Chmod { path, mode }))
+    } else if command == b"unlink".as_slice() {
+        Ok(path_of_word(alloc, words)?.map(|path| Call::Unlink { path }))
+    } else if command == b"rmdir".as_slice() {
+        Ok(path_of_word(alloc, words)?.map(|path| Call::Rmdir { path }))
+    } else if command == b"stat".as_slice() {
+        Ok(path_of_word(alloc, words)?.map(|path| Call::Stat { path }))
+    } else if command == b"list".as_slice() {
+        Ok(path_of_word(alloc, words)?.map(|path| Call::List { path }))
+    } else if command == b"link".as_slice() {
+        Ok(two_paths(alloc, words)?.map(|(old, new)| Call::Link { old, new }))
+    } else if command == b"rename".as_slice() {
+        Ok(two_paths(alloc, words)?.map(|(old, new)| Call::Rename { old, new }))
+    } else {
+        Ok(None)
+    }
+}
+
+#[tactic(auto, unfolding(crate::specs::Script::path_and_mode_of))]
+fn path_and_mode(alloc: Global, words: &[u8]) -> Result<Option<(Bytes, u16)>, AllocError>
+    ensures { IfOk result (λ read. read ≡ path_and_mode_of words.now) }
 {
     let (path, digits) = cut_at(words, b' ');
-    match mode_of_digits(digits) {
-        Some(mode) if is_script_path(path) => {
-            let path = Bytes::from_slice(alloc, path)?;
-            Ok(Some(Call::Create { path, mode }))
-        }
-        _ => Ok(None),
+    Ok(path_of_word(alloc, path)?.zip(mode_of_digits(digits)))
+}
+
+#[tactic(auto, unfolding(crate::specs::Script::two_paths_of))]
+fn two_paths(alloc: Global, words: &[u8]) -> Result<Option<(Bytes, Bytes)>, AllocError>
+    ensures { IfOk result (λ read. read ≡ two_paths_of words.now) }
+{
+    let (old, new) = cut_at(words, b' ');
+    Ok(path_of_word(alloc, old)?.zip(path_of_word(alloc, new)?))
+}
+
+#[tactic(auto, unfolding(crate::specs::Script::path_of))]
+fn path_of_word(alloc: Global, word: &[u8]) -> Result<Option<Bytes>, AllocError>
+    ensures { IfOk result (λ path. path ≡ path_of word.now) }
+{
+    if is_path_word(word) {
+        Ok(Some(Bytes::from_slice(alloc, word)?))
+    } else {
+        Ok(None)
     }
 }
 
-#[tactic(auto, unfolding(crate::specs::Script::is_path))]
-fn is_script_path(path: &[u8]) -> bool
-    ensures { result ≡ is_path path.now }
+fn is_path_word(word: &[u8]) -> bool
+    ensures { result ≡ is_path word.now }
 {
-    match path {
-        [b'/', name @ ..] => is_script_name(name),
-        _ => false,
-    }
+    !word.is_empty() && has_path_bytes(word)
 }
 
-#[tactic(auto, unfolding(crate::specs::Script::is_name))]
-fn is_script_name(name: &[u8]) -> bool
-    ensures { result ≡ is_name name.now }
+fn has_path_bytes(word: &[u8]) -> bool
+    ensures { result ≡ list_all is_path_byte word.now }
 {
-    name.len() >= 1 && name.len() <= 255 && has_name_bytes(name) && !is_one_or_two_dots(name)
-}
-
-fn has_name_bytes(name: &[u8]) -> bool
-    ensures { result ≡ list_all is_name_byte name.now }
-{
-    name.iter()
-        .all(|b| *b >= 33 && *b <= 126 && *b != b'/' && *b != b'\\')
-}
-
-fn is_one_or_two_dots(name: &[u8]) -> bool
-    ensures { result ≡ is_dots name.now }
-{
-    name == b".".as_slice() || name == b"..".as_slice()
+    word.iter().all(|b| *b >= 33 && *b <= 126 && *b != b'\\')
 }
 
 #[tactic(auto, unfolding(crate::specs::Script::mode_of))]

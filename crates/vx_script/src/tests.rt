@@ -6,29 +6,56 @@ use vx_base::{
     Bytes, Call, Event, ExtAttrs, Ino, MemSink, Name, Names, NumList, Refusal, Reply, SinkFault,
 };
 
-fn create(alloc: Global, path: &[u8], mode: u16) -> Result<Call, AllocError> {
-    Ok(Call::Create {
-        path: Bytes::from_slice(alloc, path)?,
-        mode,
-    })
+fn path(alloc: Global, bytes: &[u8]) -> Result<Bytes, AllocError> {
+    Bytes::from_slice(alloc, bytes)
+}
+
+fn expected_calls(alloc: Global) -> Result<Vec<Call>, AllocError> {
+    let mut calls = Vec::new(alloc);
+    calls.push(Call::Create {
+        path: path(alloc, b"/a")?,
+        mode: 0o644,
+    })?;
+    calls.push(Call::Mkdir {
+        path: path(alloc, b"/d")?,
+        mode: 0o1755,
+    })?;
+    calls.push(Call::Chmod {
+        path: path(alloc, b"/a")?,
+        mode: 0o7,
+    })?;
+    calls.push(Call::Unlink {
+        path: path(alloc, b"a")?,
+    })?;
+    calls.push(Call::Rmdir {
+        path: path(alloc, b"/d/")?,
+    })?;
+    calls.push(Call::Stat {
+        path: path(alloc, b"~!")?,
+    })?;
+    calls.push(Call::List {
+        path: path(alloc, b"/")?,
+    })?;
+    calls.push(Call::Link {
+        old: path(alloc, b"/a")?,
+        new: path(alloc, b"/b")?,
+    })?;
+    calls.push(Call::Rename {
+        old: path(alloc, b"/b")?,
+        new: path(alloc, b"/a")?,
+    })?;
+    Ok(calls)
 }
 
 #[test]
 fn parses_calls(rt: HostRuntime) -> Result<(), Fail> {
     let alloc = rt.alloc();
-    let text = b"sessions 1\n0 create /a 644\n0 list /\n0 create /a 600\n";
+    let text =
+        b"sessions 1\n0 create /a 644\n0 mkdir /d 1755\n0 chmod /a 7\n0 unlink a\n0 rmdir /d/\n0 stat ~!\n0 list /\n0 link /a /b\n0 rename /b /a\n";
     let Ok(calls) = parse(alloc, text) else {
         return Err(Fail::from("refused"));
     };
-    assert_eq!(rt; calls.len(), 3);
-    assert!(rt; calls[0] == create(alloc, b"/a", 0o644)?);
-    assert!(rt;
-        calls[1]
-            == Call::List {
-                path: Bytes::from_slice(alloc, b"/")?
-            }
-    );
-    assert!(rt; calls[2] == create(alloc, b"/a", 0o600)?);
+    assert!(rt; calls.as_slice() == expected_calls(alloc)?.as_slice());
     Ok(())
 }
 
@@ -42,9 +69,17 @@ fn expect_bad_line(rt: &(impl Abort + AllocGlobal), text: &[u8], line: u32) {
 #[test]
 fn refuses_bad_lines(rt: HostRuntime) {
     expect_bad_line(&rt, b"sessions 17", 1);
-    expect_bad_line(&rt, b"sessions 1\n0 frob", 2);
     expect_bad_line(&rt, b"", 1);
+    expect_bad_line(&rt, b"sessions 1\n0 frob /a", 2);
     expect_bad_line(&rt, b"sessions 1\n0 list /\n\n", 3);
+    expect_bad_line(&rt, b"sessions 1\n0 unlink", 2);
+    expect_bad_line(&rt, b"sessions 1\n0 stat /a\\x20", 2);
+    expect_bad_line(&rt, b"sessions 1\n0 rmdir /a ", 2);
+    expect_bad_line(&rt, b"sessions 1\n0 link /a", 2);
+    expect_bad_line(&rt, b"sessions 1\n0 rename /a  /b", 2);
+    expect_bad_line(&rt, b"sessions 1\n0 mkdir /a", 2);
+    expect_bad_line(&rt, b"sessions 1\n0 create /a 00644", 2);
+    expect_bad_line(&rt, b"sessions 1\n0 chmod /a 648", 2);
 }
 
 fn asked(alloc: Global, line: u32, reply: Reply) -> Result<Event, AllocError> {
@@ -156,6 +191,20 @@ fn renders_answers(rt: HostRuntime) -> Result<(), Fail> {
         &rt,
         stat,
         b"0 12 ok file 7 0644 1 1024\nstopped calls=1 moves=1 from=5 to=1\n",
+    )?;
+    expect_answer(
+        &rt,
+        Reply::DirStat {
+            ino,
+            mode: 0o1755,
+            entries: 3,
+        },
+        b"0 12 ok dir 7 1755 3\nstopped calls=1 moves=1 from=5 to=1\n",
+    )?;
+    expect_answer(
+        &rt,
+        Reply::Fine,
+        b"0 12 ok\nstopped calls=1 moves=1 from=5 to=1\n",
     )?;
     expect_answer(
         &rt,
