@@ -15,3 +15,5 @@ pub mod EditTouches
 pub mod BlockClaims
 pub mod EntryLists
 pub mod NameEdits
+pub mod Chains
+pub mod GivenUp

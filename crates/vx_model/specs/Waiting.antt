@@ -9,11 +9,11 @@ use Rattle.vx_model.specs.Legal.{with_released}
 abbrev pub is_claimed : State → ℕ → Bool
 is_claimed s b = is_some (claim_of s.layout b)
 
--- a block that a directory had has one still or waits for the event at this place, and what waited waits on
+-- a block that a directory had has one still or waits for the event at this place, and no other begins or ceases to wait
 pub record Waits (place : ℕ) (s new : State) : Type 0 where
   pub same_volume : volume new.layout ≡ volume s.layout
   pub claimed : (b : ℕ) → is_claimed s b ≡ true → (is_claimed new b ≡ true) ⊎ (new.layout.pending b ≡ Some place)
-  pub pending : (b q : ℕ) → s.layout.pending b ≡ Some q → (new.layout.pending b ≡ Some q) ⊎ (new.layout.pending b ≡ Some place)
+  pub pending : (b : ℕ) → (new.layout.pending b ≡ s.layout.pending b) ⊎ (new.layout.pending b ≡ Some place)
 
 pub record WaitingLaws : Type 0 where
   pub step : (s : State) (place session : ℕ) (call : Call) (done : Done) → step s place session call ≡ Some done → Waits place s done.state

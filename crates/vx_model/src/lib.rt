@@ -6,3 +6,4 @@ pub mod edits;
 pub mod images;
 pub mod reads;
 pub mod states;
+pub mod waiting;
