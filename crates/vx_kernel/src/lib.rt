@@ -7,5 +7,5 @@ mod formatting;
 mod journal;
 mod laws;
 
-pub use formatting::format;
+pub use formatting::{LOG_BLOCKS, format};
 pub use journal::Journal;

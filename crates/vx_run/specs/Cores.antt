@@ -1,25 +1,28 @@
 -- A mount between two calls.
-use Rattle.std.specs.Prelude.{◌≡◌, ◌⊎◌, ◌≤◌, ◌*◌, ◌+◌, ℕ, Bool, true, false, List, [], ◌∷◌, ◌++◌, length, Option, Some, None, IsSome, filter_map, All}
+use Rattle.std.specs.Prelude.{◌≡◌, ◌⊎◌, ◌<◌, ◌≤◌, ◌*◌, ◌+◌, ℕ, Bool, true, false, List, [], ◌∷◌, ◌++◌, length, Option, Some, None, IsSome, OnOk, Result, filter_map, All}
 use Rattle.std.specs.FinMap as map
 use Rattle.vx_base.specs.declared.call.Call.{Call}
-use Rattle.vx_base.specs.declared.call.Call.TheVariants as call
 use Rattle.vx_base.specs.declared.reply.Reply.{Reply}
-use Rattle.vx_base.specs.declared.reply.Reply.TheVariants as say
 use Rattle.vx_base.specs.declared.event.Event.{Event}
 use Rattle.vx_base.specs.declared.event.Event.TheVariants as event
 use Rattle.vx_base.specs.Faults.{Rose}
 use Rattle.vx_dev.specs.Tape as dev
+use Rattle.vx_dev.specs.declared.device.DevFault.{DevFault}
+use Rattle.vx_layout.specs.LogForms.{AfterImage}
 use Rattle.vx_log.specs.Logs.{LogView}
 use Rattle.vx_log.specs.Moments.{Told, Past, Passed}
 use Rattle.vx_model.specs.Allowed.{come_by, is_refusal, IsAllowed}
 use Rattle.vx_model.specs.AllowedLaws.{IsPlaced}
+use Rattle.vx_model.specs.LaidOut.{IsLaidOut}
 use Rattle.vx_model.specs.Replays.{ReplaysAs}
 use Rattle.vx_model.specs.State.{State, fresh}
 use Rattle.vx_model.specs.Step.{step}
-use Rattle.vx_model.specs.Legal.{World, opening, after_all, Legal, IfThere, is_fault, state_after}
-use Rattle.vx_run.specs.States.{new_log_blocks}
-use Rattle.vx_run.specs.Metadata.{state_of}
-use Rattle.vx_run.specs.Journals.{IsAtRest, IsMounted, IsMade, IsKept}
+use Rattle.vx_model.specs.Touching.{Touched, IsTouched, untouched}
+use Rattle.vx_model.specs.Waiting.{Waits}
+use Rattle.vx_model.specs.Legal.{World, opening, after_all, Legal, IfThere, is_fault, is_no_space, state_after, with_released}
+use Rattle.vx_kernel.specs.Journals.{new_log_blocks, IsAtRest, IsIdle, IsMounted, IsKept}
+use Rattle.vx_txn.specs.Metas.{IsStateOf}
+use Rattle.vx_txn.specs.declared.meta.Meta.{Meta}
 use Rattle.vx_run.specs.declared.engine.Core.{Core}
 
 -- where every mount begins: a new file system whose directories have one block at most
@@ -36,63 +39,105 @@ pub record IsRun (opened : ℕ) (history : List Event) (state : State) (count : 
   pub mounted : (after_all (beginning opened) history).unmounted ≡ false
 
 -- a crash at any earlier moment from the end of the format on leaves what the history allows, and so does one now
-pub record IsLive (opened : ℕ) (history : List Event) (disabled : Option ℕ) (log : LogView) (homes : List (Option (List ℕ))) (s : State) (t : dev.Tape) : Type 0 where
+pub record IsLive (opened : ℕ) (history : List Event) (disabled : Option ℕ) (log : LogView) (homes : List AfterImage) (s : State) (t : dev.Tape) : Type 0 where
   pub past : Past (opened + 70) (IsAllowed (beginning opened) history) t
   pub kept : disabled ≡ None → IsKept log homes s t
   pub stopped : IsSome disabled → (image : ℕ → List ℕ) → dev.IsImage t image → IsAllowed (beginning opened) history (length t.ops) image
 
--- what every mount keeps between two calls
-pub record IsCore (d : dev.State) (core : Core) : Type 0 where
-  pub run : IsRun core.opened core.history.items (state_of core.metadata) d.count
+-- what holds of the device, the journal and the history between two calls, which lead to the state
+pub record IsBase (d : dev.State) (core : Core) (s : State) : Type 0 where
+  pub run : IsRun core.opened core.history.items s d.count
   pub size : 9220 ≤ d.size
   pub rest : core.disabled ≡ None → IsAtRest core.journal
-  pub head : core.journal.log.head ≤ 8 * length core.history.items
-  pub mounted : IsMounted (state_of core.metadata)
+  pub head : core.journal.log.head ≤ 16 * length core.history.items
+  pub mounted : IsMounted s
   pub come : (m : ℕ) → d.count ≤ m → come_by core.history.items m ≡ length core.history.items
   pub placed : All (IsPlaced (length core.history.items)) core.history.items
-  pub live : Told d (IsLive core.opened core.history.items core.disabled core.journal.log core.journal.homes (state_of core.metadata))
+  -- blocks wait for events that have come
+  pub pending : (b q : ℕ) → s.layout.pending b ≡ Some q → q < length core.history.items
+  pub live : Told d (IsLive core.opened core.history.items core.disabled core.journal.log core.journal.homes s)
 
--- a create has a mode that an inode can have
-abbrev pub HasMode : Call → Type 0
-HasMode (call.Create path mode) = mode ≤ 4095
-HasMode _ = Unit {0}
+-- what every mount keeps between two calls: the metadata stand for the state, and nothing is touched
+pub record IsCore (d : dev.State) (core : Core) : Type 0 where
+  pub state : State
+  pub base : IsBase d core state
+  pub meta : IsStateOf core.meta state
+  pub touched : core.touched ≡ untouched
 
--- a line's call and its answer, behind the history before it
+-- what a call replies at a place of the history, and the state that it leaves
+pub record IsReply (s : State) (place : ℕ) (call : Call) (reply : Reply) (new : State) : Type 0 where
+  pub reply_is : IfThere (step s place 0 call) (λ done. (reply ≡ done.reply) ⊎ (is_fault reply ≡ true))
+  pub state_is : new ≡ state_after s place 0 call reply
+
+-- the metadata have gone from the state to a new one by the call that stands at this place, which touched what is touched
+pub record HasDone (s : State) (place : ℕ) (call : Call) (reply : Reply) (m : Meta) (t : Touched) : Type 0 where
+  pub new : State
+  pub reply_is : IsReply s place call reply new
+  pub meta : IsStateOf m new
+  pub mounted : IsMounted new
+  pub touched : IsTouched s new t
+  pub waits : Waits place s new
+  pub refused : is_refusal reply ≡ true → t ≡ untouched
+
+-- a call was done in memory, and is to be noted
+pub record IsAsked (d : dev.State) (core : Core) (call : Call) (reply : Reply) : Type 0 where
+  pub state : State
+  pub base : IsBase d core state
+  pub done : HasDone state (length core.history.items) call reply core.meta core.touched
+  pub disabled : IsSome core.disabled → is_refusal reply ≡ true
+  -- where blocks wait to be free, a call is not refused for want of them
+  pub all_released : is_no_space reply ≡ true → (b : ℕ) → state.layout.pending b ≡ None
+
+-- the blocks that waited were released at this moment, or not
+abbrev pub releases : Option ℕ → (upto : ℕ) → List Event
+releases None upto = []
+releases (Some at) upto = event.Release at upto ∷ []
+
+abbrev pub released_by : Option ℕ → (upto : ℕ) → State → State
+released_by None upto s = s
+released_by (Some at) upto s = with_released s upto
+
+abbrev pub IsBetween : Option ℕ → (from to : ℕ) → Type 0
+IsBetween None from to = Unit {0}
+IsBetween (Some at) from to = (from ≤ at) × (at ≤ to)
+
+-- a line's call and its answer, behind the history before it; blocks that waited may have been released before the call and in it
 pub record IsAnswered (line : ℕ) (call : Call) (old new : List Event) : Type 0 where
+  pub earlier : Option ℕ
   pub at : ℕ
   pub reply : Reply
+  pub between : Option ℕ
   pub later : ℕ
   pub answer : Reply
-  pub is : new ≡ (old ++ event.Do at 0 line call reply ∷ []) ++ event.Ret later (length old) answer ∷ []
+  pub place : ℕ
+  pub upto : ℕ
+  pub is : new ≡ (((old ++ releases earlier (length old)) ++ event.Do at 0 line call reply ∷ []) ++ releases between upto) ++ event.Ret later place answer ∷ []
 
--- what a call replies in a state, and the state that it leaves
-pub record IsReply (s : State) (call : Call) (reply : Reply) (new : State) : Type 0 where
-  pub reply_is : IfThere (step s 0 call) (λ done. (reply ≡ done.reply) ⊎ (is_fault reply ≡ true))
-  pub state_is : new ≡ state_after s 0 call reply
+-- The change was carried to the device: each image on the way replays as the tree before it or after it, and blocks that waited may
+-- have been released.
+pub record IsCommitted (s new : State) (place : ℕ) (before after : dev.State) (old core : Core) (result : Result (Unit {0}) DevFault) : Type 0 where
+  pub released : Option ℕ
+  pub between : IsBetween released before.count after.count
+  pub history : core.history.items ≡ old.history.items ++ releases released place
+  pub meta : IsStateOf core.meta (released_by released place new)
+  pub passed : Passed (λ image. ReplaysAs image s.tree ⊎ ReplaysAs image new.tree) before after
+  pub kept : OnOk result (Told after (IsKept core.journal.log core.journal.homes (released_by released place new)))
 
--- the inode that a reply says was made
-abbrev pub made_in : Reply → Option ℕ
-made_in (say.Made ino) = Some ino
-made_in _ = None
+-- so it is with a call's answer, and where a write has failed, the answer is a refusal
+pub record IsCarried (s new : State) (place : ℕ) (before after : dev.State) (old core : Core) (answer : Reply) : Type 0 where
+  pub released : Option ℕ
+  pub between : IsBetween released before.count after.count
+  pub history : core.history.items ≡ old.history.items ++ releases released place
+  pub meta : IsStateOf core.meta (released_by released place new)
+  pub passed : Passed (λ image. ReplaysAs image s.tree ⊎ ReplaysAs image new.tree) before after
+  pub kept : core.disabled ≡ None → Told after (IsKept core.journal.log core.journal.homes (released_by released place new))
+  pub refused : IsSome core.disabled → is_refusal answer ≡ true
 
--- a call has led from the one state to the other: a create that made an inode, or a call that changed nothing
-abbrev pub IsMaking : State → State → Option ℕ → Type 0
-IsMaking s new None = new ≡ s
-IsMaking s new (Some ino) = IsMade s new ino
-
--- nothing was to be made durable: the device and the journal are as they were, and the reply is the answer
+-- nothing was to be made durable: the device and the mount are as they were, and the reply is the answer
 pub record IsUntouched (before after : dev.State) (old new : Core) (reply answer : Reply) : Type 0 where
   pub device : after ≡ before
-  pub journal : new.journal ≡ old.journal
-  pub disabled : new.disabled ≡ old.disabled
+  pub core : new ≡ old
   pub answer_is : answer ≡ reply
-
--- The change was carried to the device: each image on the way replays as the tree before it or after it. Now the log and the
--- homes stand for the state after it, or a write has failed, and the answer is a refusal.
-pub record IsCarried (s made : State) (before after : dev.State) (new : Core) (answer : Reply) : Type 0 where
-  pub passed : Passed (λ image. ReplaysAs image s.tree ⊎ ReplaysAs image made.tree) before after
-  pub kept : new.disabled ≡ None → Told after (IsKept new.journal.log new.journal.homes made)
-  pub refused : IsSome new.disabled → is_refusal answer ≡ true
 
 -- the mount is disabled exactly where a write or barrier failed
 pub record TellsFaults (before now : ℕ) (disabled : Option ℕ) : Type 0 where

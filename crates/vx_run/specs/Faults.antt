@@ -1,5 +1,6 @@
 -- Where in a history the faults of the device are told.
-use Rattle.std.specs.Prelude.{◌≡◌, ◌⊎◌, ℕ, Bool, true, false, List, ◌∷◌, ◌++◌, Option, Some, None, All}
+use Rattle.std.specs.Prelude.{◌≡◌, ◌⊎◌, ℕ, Bool, true, false, List, [], ◌∷◌, ◌++◌, Option, Some, None, All}
+use Rattle.vx_base.specs.declared.call.Call.{Call}
 use Rattle.vx_base.specs.declared.event.Event.{Event}
 use Rattle.vx_base.specs.declared.event.Event.TheVariants as event
 use Rattle.vx_base.specs.declared.refusal.Refusal.{Refusal}
@@ -42,19 +43,31 @@ FitsDevice None None d reply answer = answer ≡ reply
 FitsDevice None (Some faults) d reply answer = (answer ≡ say.Refused no.WriteFault) × (faults ≡ d.write_faults)
 FitsDevice (Some faults) now d reply answer = (now ≡ Some faults) × (answer ≡ reply)
 
+-- A call is answered WriteFault at so many operations; where a write failed before the call was done, its reply is that too.
+pub data IsStop (ops : ℕ) (events : List Event) : Type 0 where
+  after_reply : (place : ℕ) → events ≡ event.Ret ops place (say.Refused no.WriteFault) ∷ [] → IsStop ops events
+  before_reply : (line place : ℕ) (call : Call) → events ≡ event.Do ops 0 line call (say.Refused no.WriteFault) ∷ event.Ret ops place (say.Refused no.WriteFault) ∷ [] → IsStop ops events
+
 -- one call is answered WriteFault, no fault is told before, and from there on all is Disabled, without a further operation
 pub record StopsAt (faults ops : ℕ) (history : List Event) : Type 0 where
   pub before : List Event
-  pub place : ℕ
+  pub stop : List Event
   pub after : List Event
-  pub is : history ≡ before ++ event.Ret ops place (say.Refused no.WriteFault) ∷ after
+  pub is : history ≡ before ++ stop ++ after
   pub fine : All TellsNoFault before
+  pub is_stop : IsStop ops stop
   pub disabled : All (TellsDisabled faults ops) after
 
 -- between two calls: no fault is told, or the mount has stopped where the device now is
 abbrev pub AreInOrder : Option ℕ → dev.State → List Event → Type 0
 AreInOrder None d history = All TellsNoFault history
 AreInOrder (Some faults) d history = (faults ≡ d.write_faults) × StopsAt faults d.count history
+
+-- a call's reply is known, but not noted yet: no fault is told, or the mount had stopped, or it stops here before the call is done
+abbrev pub ReplyInOrder : Option ℕ → dev.State → List Event → Reply → Type 0
+ReplyInOrder None d history reply = All TellsNoFault history × IsFaultless reply
+ReplyInOrder (Some faults) d history reply =
+    (faults ≡ d.write_faults) × ((StopsAt faults d.count history × (reply ≡ say.Refused (no.Disabled faults))) ⊎ (All TellsNoFault history × (reply ≡ say.Refused no.WriteFault)))
 
 -- at the end of a run: the same, or the fault came in the unmounting, which answers no call
 abbrev pub EndInOrder : Option ℕ → dev.State → List Event → Type 0

@@ -1,10 +1,3 @@
-pub mod Slots
-pub mod Nodes
-pub mod States
-pub mod Metadata
-pub mod Devices
-pub mod Noted
-pub mod Journals
 pub mod Replies
 pub mod Cores
 pub mod Faults
@@ -12,6 +5,3 @@ pub mod Words
 pub mod Reads
 pub mod Ends
 pub mod Outcomes
-pub mod Sectors
-pub mod Formats
-pub mod JournalLaws

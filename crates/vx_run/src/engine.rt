@@ -1,33 +1,40 @@
 //! A mount: it answers one call after another, and keeps the history.
-ghost use Rattle.std.specs.Prelude.{◌≡◌, ◌⊎◌, ◌<◌, ◌≤◌, ◌+◌, ◌*◌, ◌^◌, ◌++◌, ◌∷◌, [], ℕ, true, None, Some, OnOk, OnErr, IfOk, IfSome, IsSome, length, vec_len, vec_capacity, is_none, replicate, List, All};
+ghost use Rattle.std.specs.Prelude.{◌≡◌, ◌≢◌, ◌⊎◌, ◌<◌, ◌≤◌, ◌+◌, ◌*◌, ◌^◌, ◌++◌, ◌∷◌, [], ℕ, true, None, Some, OnOk, OnErr, IfOk, IfSome, IsSome, length, vec_len, vec_capacity, is_none, List, All};
 ghost use Rattle.vx_base.specs.Faults.{HasCause};
 ghost use Rattle.vx_base.specs.declared.event.Event.TheVariants as event;
 ghost use Rattle.vx_base.specs.declared.call.Call.{Call};
 ghost use Rattle.vx_model.specs.Step.{has_step};
-ghost use Rattle.vx_model.specs.Legal.{is_fault};
+ghost use Rattle.vx_model.specs.Legal.{is_fault, is_no_space};
 ghost use Rattle.vx_model.specs.Allowed.{is_refusal};
 ghost use Rattle.vx_model.specs.State.{State};
-ghost use Rattle.vx_run.specs.Cores.{HasMode, IsReply, IsMaking, made_in};
-ghost use Rattle.vx_run.specs.Faults.{FitsMount, FitsDevice, AreInOrder, EndInOrder};
-ghost use Rattle.vx_run.specs.Metadata.{state_of};
-ghost use Rattle.vx_run.specs.Devices.{Onward};
-ghost use Rattle.vx_run.specs.Journals.{IsMounted};
-ghost use Rattle.vx_run.specs.Replies.{IsSound, IsSoundOrFault};
+ghost use Rattle.vx_model.specs.Touching.{untouched};
+ghost use Rattle.vx_kernel.specs.Devices.{Onward};
+ghost use Rattle.vx_txn.specs.Metas.{IsStateOf};
+ghost use Rattle.vx_txn.specs.Calls.{HasMode, most};
+ghost use Rattle.std.specs.declared.option.Option.{Option};
+ghost use Rattle.vx_base.specs.declared.refusal.Refusal.TheVariants as no;
+ghost use Rattle.vx_run.specs.Cores.{HasDone, IsAsked, releases};
+ghost use Rattle.vx_run.specs.Faults.{FitsMount, FitsDevice, AreInOrder, ReplyInOrder, EndInOrder};
 ghost use Rattle.vx_base.specs.declared.reply.Reply.TheVariants.{Refused};
 
-use crate::kernel::Journal;
-use crate::metadata::Metadata;
+use crate::sectors::stage;
 use std::alloc::{AllocError, Global};
 use vx_base::{Call, Event, Refusal, Reply};
-use vx_dev::BlockDev;
+use vx_dev::{BlockDev, DevFault};
+use vx_kernel::{Journal, LOG_BLOCKS};
+use vx_log::log_length;
 use vx_model::allowed::allowed_laws;
-use vx_model::states::{create_keeps, create_makes};
+use vx_model::edits::edit_laws;
+use vx_model::waiting::waiting_laws;
+use vx_txn::{Meta, Touched};
 
 /// What a mount keeps beside its device.
 #[derive(Drop)]
 pub struct Core {
     pub journal: Journal,
-    pub metadata: Metadata,
+    pub meta: Meta,
+    /// What the present call has touched.
+    pub touched: Touched,
     pub history: Vec<Event>,
     /// The device's count of failed writes, from the first one in this mount on.
     pub disabled: Option<u64>,
@@ -39,33 +46,37 @@ impl Core {
     ghost use Rattle.vx_log.specs.Moments.{Told, Always};
     ghost use Rattle.vx_log.specs.Logs.{fresh_log};
     ghost use Rattle.vx_model.specs.Allowed.{IsAllowed};
-    ghost use Rattle.vx_model.specs.Legal.{after_all};
+    ghost use Rattle.vx_model.specs.Legal.{after_all, with_released};
     ghost use Rattle.vx_model.specs.State.{fresh};
-    ghost use Rattle.vx_run.specs.States.{new_log_blocks};
-    ghost use Rattle.vx_run.specs.Journals.{IsMade, IsKept, IsLeft};
-    ghost use Rattle.vx_run.specs.Cores.{beginning, IsUntouched, IsCarried, IsCore, IsAnswered, IsRun, IsEnded, is_unmounted, IsOfLines, TellsFaults};
-    ghost use Rattle.vx_run.specs.Journals.{IsAtRest};
+    ghost use Rattle.vx_model.specs.LaidOut.{IsLaidOut};
+    ghost use Rattle.vx_model.specs.Touching.{IsTouched};
+    ghost use Rattle.vx_model.specs.Waiting.{Waits};
+    ghost use Rattle.vx_kernel.specs.Journals.{new_log_blocks, IsAtRest, IsMounted, IsKept, IsLeft};
+    ghost use Rattle.vx_run.specs.Cores.{beginning, IsCore, IsUntouched, IsCarried, IsCommitted, IsAnswered, IsRun, IsEnded, is_unmounted, IsOfLines, TellsFaults};
 
     /// A mount of a new file system. It takes all memory for the history of so many lines.
     pub fn fresh(alloc: Global, lines: usize, opened: u64) -> Result<Self, AllocError>
         requires { lines ≤ 65535 }
-        ensures run { IfOk result (λ core. (count : ℕ) → opened ≤ count → IsRun core.opened core.history.items (state_of core.metadata) count) }
+        ensures run { IfOk result (λ core. (count : ℕ) → opened ≤ count → IsRun core.opened core.history.items (fresh new_log_blocks 1) count) }
         ensures rest { IfOk result (λ core. IsAtRest core.journal) }
         ensures head { IfOk result (λ core. core.journal.log.head ≡ 0) }
         ensures history { IfOk result (λ core. core.history.items ≡ []) }
-        ensures room { IfOk result (λ core. 2 * lines + 1 ≤ vec_capacity core.history) }
+        ensures room { IfOk result (λ core. 4 * lines + 1 ≤ vec_capacity core.history) }
         ensures enabled { IfOk result (λ core. core.disabled ≡ None) }
         ensures opened { IfOk result (λ core. core.opened ≡ opened) }
         ensures log { IfOk result (λ core. core.journal.log ≡ fresh_log 1024) }
-        ensures homes { IfOk result (λ core. core.journal.homes ≡ replicate 68 None) }
-        ensures state { IfOk result (λ core. state_of core.metadata ≡ fresh new_log_blocks 1) }
+        ensures homes { IfOk result (λ core. core.journal.homes ≡ []) }
+        ensures meta { IfOk result (λ core. IsStateOf core.meta (fresh new_log_blocks 1)) }
+        ensures touched { IfOk result (λ core. core.touched ≡ untouched) }
     {
         let journal = Journal::new(alloc)?;
-        let metadata = Metadata::new(alloc)?;
-        let history = Vec::with_capacity(alloc, 2 * lines + 1)?;
+        let meta = Meta::fresh(alloc, LOG_BLOCKS)?;
+        let touched = Touched::new(alloc)?;
+        let history = Vec::with_capacity(alloc, 4 * lines + 1)?;
         Ok(Core {
             journal,
-            metadata,
+            meta,
+            touched,
             history,
             disabled: None,
             opened,
@@ -78,7 +89,7 @@ impl Core {
         requires built { has_step call ≡ true }
         requires line { 0 < line }
         requires mode { HasMode call }
-        requires room { vec_len self.old.history + 2 ≤ vec_capacity self.old.history }
+        requires room { vec_len self.old.history + 4 ≤ vec_capacity self.old.history }
         requires short { vec_len self.old.history < 2 ^ 32 }
         ensures core { IsCore (D.state dev.new) self.new }
         ensures answered { IsAnswered line call self.old.history.items self.new.history.items }
@@ -88,11 +99,122 @@ impl Core {
         ensures faults { (before : ℕ) → TellsFaults before (D.state dev.old).write_faults self.old.disabled → TellsFaults before (D.state dev.new).write_faults self.new.disabled }
         ensures onward { Onward (D.state dev.old) (D.state dev.new) }
     {
+        let (reply, answer) = self.asked(alloc, dev, &call);
+        self.noted(dev, line, call, reply, answer);
+    }
+
+    /// Does a call in memory, and answers its reply, twice. A call that is short of blocks has those that wait released first.
+    fn asked<D: BlockDev>(&mut self, alloc: Global, dev: &mut D, call: &Call) -> (Reply, Reply)
+        requires core { IsCore (D.state dev.old) self.old }
+        requires built { has_step call.now ≡ true }
+        requires mode { HasMode call.now }
+        requires room { vec_len self.old.history < vec_capacity self.old.history }
+        requires short { vec_len self.old.history < 2 ^ 32 }
+        ensures asked { IsAsked (D.state dev.new) self.new call.now result.0 }
+        ensures few { most self.new.touched ≤ 4 }
+        ensures copy { result.1 ≡ result.0 }
+        ensures history { (at : Option ℕ) × (self.new.history.items ≡ self.old.history.items ++ releases at (length self.old.history.items)) }
+        ensures order { AreInOrder self.old.disabled (D.state dev.old) self.old.history.items → ReplyInOrder self.new.disabled (D.state dev.new) self.new.history.items result.0 }
+        ensures capacity { vec_capacity self.old.history ≤ vec_capacity self.new.history }
+        ensures opened { self.new.opened ≡ self.old.opened }
+        ensures faults { (before : ℕ) → TellsFaults before (D.state dev.old).write_faults self.old.disabled → TellsFaults before (D.state dev.new).write_faults self.new.disabled }
+        ensures onward { Onward (D.state dev.old) (D.state dev.new) }
+    {
+        let (reply, answer) = self.replies(alloc, call);
+        if !is_no_space(&reply) || !self.meta.has_pending() {
+            return (reply, answer);
+        }
+        match self.release_all(dev) {
+            Ok(()) => self.replies(alloc, call),
+            Err(_) => twice(&Refusal::WriteFault),
+        }
+    }
+
+    /// Does a call in memory, and answers its reply, twice.
+    fn replies(&mut self, alloc: Global, call: &Call) -> (Reply, Reply)
+        requires built { has_step call.now ≡ true }
+        requires mode { HasMode call.now }
+        requires touched { self.old.touched ≡ untouched }
+        requires sound { (s : State) × IsMounted s × IsStateOf self.old.meta s }
+        ensures done { (s : State) → IsMounted s → IsStateOf self.old.meta s → HasDone s (length self.old.history.items) call.now result.0 self.new.meta self.new.touched }
+        ensures few { most self.new.touched ≤ 4 }
+        ensures copy { result.1 ≡ result.0 }
+        ensures fits { FitsMount self.old.disabled result.0 }
+        ensures disabled { IsSome self.old.disabled → is_refusal result.0 ≡ true }
+        ensures same { self.new ≡ record self.old { meta = self.new.meta; touched = self.new.touched } }
+    {
+        waiting_laws();
+        if let Some(write_faults) = self.disabled {
+            return twice(&Refusal::Disabled { write_faults });
+        }
+        let place = self.history.len() as u64;
+        match self.meta.apply(alloc, call, place, &mut self.touched) {
+            Ok(replies) => replies,
+            Err(_) => twice(&Refusal::NoMemory),
+        }
+    }
+
+    /// Empties the log, so that all blocks that wait are free.
+    fn release_all<D: BlockDev>(&mut self, dev: &mut D) -> Result<(), DevFault>
+        requires core { IsCore (D.state dev.old) self.old }
+        requires enabled { self.old.disabled ≡ None }
+        requires room { vec_len self.old.history < vec_capacity self.old.history }
+        ensures core { IsCore (D.state dev.new) self.new }
+        ensures history { (at : Option ℕ) × (self.new.history.items ≡ self.old.history.items ++ releases at (length self.old.history.items)) }
+        ensures released { OnOk result ((s : State) → IsStateOf self.new.meta s → (b : ℕ) → s.layout.pending b ≡ None) }
+        ensures order { AreInOrder self.old.disabled (D.state dev.old) self.old.history.items → OnOk result (AreInOrder self.new.disabled (D.state dev.new) self.new.history.items) }
+        ensures fault { AreInOrder self.old.disabled (D.state dev.old) self.old.history.items → OnErr result (ReplyInOrder self.new.disabled (D.state dev.new) self.new.history.items (Refused no.WriteFault)) }
+        ensures capacity { vec_capacity self.old.history ≤ vec_capacity self.new.history }
+        ensures opened { self.new.opened ≡ self.old.opened }
+        ensures faults { (before : ℕ) → TellsFaults before (D.state dev.old).write_faults self.old.disabled → TellsFaults before (D.state dev.new).write_faults self.new.disabled }
+        ensures onward { Onward (D.state dev.old) (D.state dev.new) }
+    {
+        allowed_laws();
+        edit_laws();
+        match self.journal.empty(dev) {
+            Ok(()) => {
+                self.release(dev.ops(), self.history.len() as u64);
+                Ok(())
+            }
+            Err(fault) => {
+                self.disabled = Some(dev.write_faults());
+                Err(fault)
+            }
+        }
+    }
+
+    /// Frees the blocks that events at places below `upto` freed, and notes it.
+    fn release(&mut self, at: u64, upto: u64)
+        requires room { vec_len self.old.history < vec_capacity self.old.history }
+        ensures history { self.new.history.items ≡ self.old.history.items ++ event.Release at upto ∷ [] }
+        ensures capacity { vec_capacity self.old.history ≤ vec_capacity self.new.history }
+        ensures meta { (s : State) → IsLaidOut s → IsStateOf self.old.meta s → IsStateOf self.new.meta (with_released s upto) }
+        ensures same { self.new ≡ record self.old { meta = self.new.meta; history = self.new.history } }
+    {
+        self.meta.release(upto);
+        self.history.push_reserved(Event::Release { at, upto });
+    }
+
+    /// Notes a call that was done in memory, makes it durable where it changed something, and notes its answer.
+    fn noted<D: BlockDev>(&mut self, dev: &mut D, line: u32, call: Call, reply: Reply, answer: Reply)
+        requires asked { IsAsked (D.state dev.old) self.old call reply }
+        requires few { most self.old.touched ≤ 4 }
+        requires copy { answer ≡ reply }
+        requires line { 0 < line }
+        requires room { vec_len self.old.history + 3 ≤ vec_capacity self.old.history }
+        requires short { vec_len self.old.history ≤ 2 ^ 32 }
+        ensures core { IsCore (D.state dev.new) self.new }
+        ensures noted { (at : ℕ) × (between : Option ℕ) × (later : ℕ) × (last : Reply) × (place : ℕ) × (upto : ℕ) × (self.new.history.items ≡
+            ((self.old.history.items ++ event.Do at 0 line call reply ∷ []) ++ releases between upto) ++ event.Ret later place last ∷ []) }
+        ensures order { ReplyInOrder self.old.disabled (D.state dev.old) self.old.history.items reply → AreInOrder self.new.disabled (D.state dev.new) self.new.history.items }
+        ensures capacity { vec_capacity self.old.history ≤ vec_capacity self.new.history }
+        ensures opened { self.new.opened ≡ self.old.opened }
+        ensures faults { (before : ℕ) → TellsFaults before (D.state dev.old).write_faults self.old.disabled → TellsFaults before (D.state dev.new).write_faults self.new.disabled }
+        ensures onward { Onward (D.state dev.old) (D.state dev.new) }
+    {
         allowed_laws();
         let at = dev.ops();
         let place = self.history.len() as u64;
-        let (reply, answer) = replies(&mut self.metadata, self.disabled, alloc, &call);
-        let made = made_by(&reply);
         self.history.push_reserved(Event::Do {
             at,
             session: 0,
@@ -100,9 +222,70 @@ impl Core {
             call,
             reply,
         });
-        let answer = self.durable(dev, made, answer);
+        let answer = self.durable(dev, place, answer);
+        self.touched.clear();
         let at = dev.ops();
         self.history.push_reserved(Event::Ret { at, place, answer });
+    }
+
+    /// Commits what is touched, and answers the answer, or the device's fault, which disables the mount.
+    fn durable<D: BlockDev>(&mut self, dev: &mut D, place: u64, answer: Reply) -> Reply
+        requires size { 9220 ≤ (D.state dev.old).size }
+        requires rest { self.old.disabled ≡ None → IsAtRest self.old.journal }
+        requires few { most self.old.touched ≤ 4 }
+        requires room { vec_len self.old.history < vec_capacity self.old.history }
+        requires limit { self.old.journal.log.head + 17 ≤ 2 ^ 62 }
+        ensures rest { self.new.disabled ≡ None → IsAtRest self.new.journal }
+        ensures head { self.new.journal.log.head ≤ self.old.journal.log.head + 17 }
+        ensures answer { (result ≡ answer) ⊎ (is_fault result ≡ true) }
+        ensures fits { FitsDevice self.old.disabled self.new.disabled (D.state dev.new) answer result }
+        ensures untouched { (self.old.touched ≡ untouched) ⊎ IsSome self.old.disabled → IsUntouched (D.state dev.old) (D.state dev.new) self.old self.new answer result }
+        ensures carried { (s new : State) → self.old.touched ≢ untouched → self.old.disabled ≡ None → IsMounted s → IsMounted new → IsStateOf self.old.meta new → IsTouched s new self.old.touched
+            → Waits place s new → Told (D.state dev.old) (IsKept self.old.journal.log self.old.journal.homes s)
+            → IsCarried s new place (D.state dev.old) (D.state dev.new) self.old self.new result }
+        ensures capacity { vec_capacity self.old.history ≤ vec_capacity self.new.history }
+        ensures opened { self.new.opened ≡ self.old.opened }
+        ensures touched { self.new.touched ≡ self.old.touched }
+        ensures faults { (before : ℕ) → TellsFaults before (D.state dev.old).write_faults self.old.disabled → TellsFaults before (D.state dev.new).write_faults self.new.disabled }
+        ensures onward { Onward (D.state dev.old) (D.state dev.new) }
+    {
+        if self.disabled.is_some() || self.touched.is_empty() {
+            return answer;
+        }
+        match self.carry(dev, place) {
+            Ok(()) => answer,
+            Err(_) => {
+                self.disabled = Some(dev.write_faults());
+                Reply::Refused(Refusal::WriteFault)
+            }
+        }
+    }
+
+    /// Commits what is touched. Where the log has no room it is emptied first, and blocks that waited for earlier events are free.
+    fn carry<D: BlockDev>(&mut self, dev: &mut D, place: u64) -> Result<(), DevFault>
+        requires size { 9220 ≤ (D.state dev.old).size }
+        requires rest { IsAtRest self.old.journal }
+        requires few { most self.old.touched ≤ 4 }
+        requires room { vec_len self.old.history < vec_capacity self.old.history }
+        requires limit { self.old.journal.log.head + 17 ≤ 2 ^ 62 }
+        ensures rest { OnOk result (IsAtRest self.new.journal) }
+        ensures head { self.new.journal.log.head ≤ self.old.journal.log.head + 17 }
+        ensures carried { (s new : State) → IsMounted s → IsMounted new → IsStateOf self.old.meta new → IsTouched s new self.old.touched
+            → Waits place s new → Told (D.state dev.old) (IsKept self.old.journal.log self.old.journal.homes s)
+            → IsCommitted s new place (D.state dev.old) (D.state dev.new) self.old self.new result }
+        ensures capacity { vec_capacity self.old.history ≤ vec_capacity self.new.history }
+        ensures same { self.new ≡ record self.old { journal = self.new.journal; meta = self.new.meta; history = self.new.history } }
+        ensures onward { Onward (D.state dev.old) (D.state dev.new) }
+        ensures cause { HasCause (D.state dev.old).write_faults (D.state dev.new).write_faults result }
+    {
+        edit_laws();
+        waiting_laws();
+        let mut batch = self.journal.take_ready();
+        stage(&mut batch, &self.meta, &self.touched);
+        if self.journal.make_room(dev, log_length(batch.len()))? {
+            self.release(dev.ops(), place);
+        }
+        self.journal.commit(dev, batch)
     }
 
     /// Answers the calls of a script, line by line.
@@ -111,13 +294,13 @@ impl Core {
         requires built { All (λ call. has_step call ≡ true) calls.items }
         requires modes { All HasMode calls.items }
         requires begins { self.old.history.items ≡ [] }
-        requires room { 2 * length calls.items + 1 ≤ vec_capacity self.old.history }
+        requires room { 4 * length calls.items + 1 ≤ vec_capacity self.old.history }
         requires few { length calls.items ≤ 65535 }
         ensures core { IsCore (D.state dev.new) self.new }
         ensures lines { IsOfLines self.new.history.items calls.items }
         ensures order { AreInOrder self.old.disabled (D.state dev.old) self.old.history.items → AreInOrder self.new.disabled (D.state dev.new) self.new.history.items }
         ensures room { vec_len self.new.history + 1 ≤ vec_capacity self.new.history }
-        ensures short { vec_len self.new.history ≤ 131070 }
+        ensures short { vec_len self.new.history ≤ 262140 }
         ensures opened { self.new.opened ≡ self.old.opened }
         ensures faults { (before : ℕ) → TellsFaults before (D.state dev.old).write_faults self.old.disabled → TellsFaults before (D.state dev.new).write_faults self.new.disabled }
         ensures onward { Onward (D.state dev.old) (D.state dev.new) }
@@ -156,77 +339,13 @@ impl Core {
             Err(_) => self.disabled = Some(dev.write_faults()),
         }
     }
-
-    /// Commits what was made, and answers the answer, or the device's fault, which disables the mount.
-    fn durable<D: BlockDev>(&mut self, dev: &mut D, made: Option<u32>, answer: Reply) -> Reply
-        requires size { 9220 ≤ (D.state dev.old).size }
-        requires rest { self.old.disabled ≡ None → IsAtRest self.old.journal }
-        requires inode { IfSome made (λ ino. ino < 128) }
-        requires limit { self.old.journal.log.head + 6 ≤ 2 ^ 62 }
-        ensures rest { self.new.disabled ≡ None → IsAtRest self.new.journal }
-        ensures head { self.new.journal.log.head ≤ self.old.journal.log.head + 6 }
-        ensures answer { (result ≡ answer) ⊎ (is_fault result ≡ true) }
-        ensures fits { FitsDevice self.old.disabled self.new.disabled (D.state dev.new) answer result }
-        ensures untouched { (made ≡ None) ⊎ IsSome self.old.disabled → IsUntouched (D.state dev.old) (D.state dev.new) self.old self.new answer result }
-        ensures carried { (s : State) (ino : ℕ) → made ≡ Some ino → self.old.disabled ≡ None → IsMade s (state_of self.old.metadata) ino
-            → Told (D.state dev.old) (IsKept self.old.journal.log self.old.journal.homes s)
-            → IsCarried s (state_of self.old.metadata) (D.state dev.old) (D.state dev.new) self.new result }
-        ensures history { self.new.history ≡ self.old.history }
-        ensures metadata { self.new.metadata ≡ self.old.metadata }
-        ensures opened { self.new.opened ≡ self.old.opened }
-        ensures faults { (before : ℕ) → TellsFaults before (D.state dev.old).write_faults self.old.disabled → TellsFaults before (D.state dev.new).write_faults self.new.disabled }
-        ensures onward { Onward (D.state dev.old) (D.state dev.new) }
-    {
-        match (made, self.disabled) {
-            (Some(ino), None) => match self.journal.commit(dev, &self.metadata, ino) {
-                Ok(()) => answer,
-                Err(_) => {
-                    self.disabled = Some(dev.write_faults());
-                    Reply::Refused(Refusal::WriteFault)
-                }
-            },
-            _ => answer,
-        }
-    }
 }
 
-/// The inode that a reply says was made.
-fn made_by(reply: &Reply) -> Option<u32>
-    requires { IsSoundOrFault reply.now }
-    ensures inode { IfSome result (λ ino. ino < 128) }
-    ensures made { result ≡ made_in reply.now }
+/// Whether a reply refuses a call for want of blocks.
+fn is_no_space(reply: &Reply) -> bool
+    ensures { result ≡ is_no_space reply.now }
 {
-    match reply {
-        Reply::Made { ino } => Some(ino.get()),
-        _ => None,
-    }
-}
-
-/// Does a call in memory, and answers its reply, twice.
-fn replies(
-    metadata: &mut Metadata,
-    disabled: Option<u64>,
-    alloc: Global,
-    call: &Call,
-) -> (Reply, Reply)
-    requires { has_step call.now ≡ true }
-    ensures copy { result.1 ≡ result.0 }
-    ensures reply { IsReply (state_of metadata.old) call.now result.0 (state_of metadata.new) }
-    ensures sound { IsSoundOrFault result.0 }
-    ensures fits { FitsMount disabled result.0 }
-    ensures refused { IsSome disabled → is_refusal result.0 ≡ true }
-    ensures making { IsMounted (state_of metadata.old) → HasMode call.now → IsMaking (state_of metadata.old) (state_of metadata.new) (made_in result.0) }
-    ensures mounted { IsMounted (state_of metadata.old) → HasMode call.now → IsMounted (state_of metadata.new) }
-{
-    create_keeps();
-    create_makes();
-    if let Some(write_faults) = disabled {
-        return twice(&Refusal::Disabled { write_faults });
-    }
-    match metadata.apply(alloc, call) {
-        Ok(replies) => replies,
-        Err(_) => twice(&Refusal::NoMemory),
-    }
+    matches!(reply, Reply::Refused(Refusal::NoSpace { .. }))
 }
 
 fn twice(why: &Refusal) -> (Reply, Reply)

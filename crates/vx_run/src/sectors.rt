@@ -1,24 +1,28 @@
 //! The sectors that hold the metadata.
-ghost use Rattle.std.specs.Prelude.{◌≡◌, ◌<◌, ◌≤◌, ◌+◌, ◌*◌, [], length, All, ℕ};
-ghost use Rattle.vx_layout.specs.Dirs.{dir_bytes};
-ghost use Rattle.vx_model.specs.Contents.{inode_for, inode_value, volume, parsed_of, entry_changes};
-ghost use Rattle.vx_model.specs.Images.{IsBatch};
-ghost use Rattle.vx_model.specs.LaidOut.{IsLaidOut, Makes};
-ghost use Rattle.vx_model.specs.Layout.{used_by};
-ghost use Rattle.vx_model.specs.State.{State, Done};
-ghost use Rattle.vx_model.specs.Tree.{Entries, IsDirectory, lowest_unused, new_file};
-ghost use Rattle.vx_run.specs.Metadata.{state_of};
-ghost use Rattle.vx_run.specs.Sectors.{root_blocks, bitmap_bytes, pair_bytes, first_images, transaction_of};
-ghost use Rattle.vx_run.specs.Devices.{IsTransaction, IsPart};
+ghost use Rattle.std.specs.Prelude.{◌≡◌, ◌<◌, ◌≤◌, ◌+◌, ◌*◌, [], length, All, ℕ, Some};
+ghost use Rattle.std.specs.List.{AllByRecursion};
+ghost use Rattle.vx_model.specs.Contents.{parsed_of};
+ghost use Rattle.vx_model.specs.Images.{content_at};
+ghost use Rattle.vx_model.specs.Layout.{volume};
+ghost use Rattle.vx_model.specs.State.{State};
+ghost use Rattle.vx_model.specs.Touching.{HasTouched};
+ghost use Rattle.vx_kernel.specs.Devices.{IsInside};
+ghost use Rattle.vx_kernel.specs.Journals.{IsMounted};
+ghost use Rattle.vx_txn.specs.Metas.{IsStateOf};
+ghost use Rattle.vx_txn.specs.Calls.{most};
 
-use crate::metadata::Metadata;
-use crate::node::PlainNode;
-use vx_base::{
-    Block, DirEntry, ExtAttrs, Extent, FileKind, Inode, InodeValue, Kind, Page, SectorNo,
-};
+use vx_base::{Block, Ino, SectorNo};
 use vx_codec::{inode_sector, sector_part, write_bits, write_dir};
 use vx_log::Batch;
-use vx_model::images::{sector_contents, whole_batch};
+use vx_model::images::sector_contents;
+use vx_model::states::claims;
+use vx_txn::{Directory, Meta, Touched};
+
+/// The first block of the only unit, which has its bitmap.
+const UNIT: u32 = 514;
+
+/// The first data block of a unit, counted from its start.
+const FIRST_DATA: usize = 33;
 
 /// The sector of the unit's bitmap.
 const BITMAP: u32 = 1028;
@@ -26,138 +30,70 @@ const BITMAP: u32 = 1028;
 /// The sector of inodes 0 and 1.
 const INODES: u32 = 1030;
 
-/// The root's block, the first data block, and its first sector.
-const ROOT_BLOCK: u32 = 547;
+/// The number of inodes.
+const INODE_COUNT: u32 = 128;
 
-const ROOT_SECTOR: u32 = 1094;
-
-const ROOT: u32 = 2;
-
-const NO_ATTRS: ExtAttrs = ExtAttrs {
-    fixed: 0,
-    reserve: 0,
-    flags: 0,
-};
-
-/// Puts the sectors that a create has changed into a batch: those of the new inode and of the root's block, and with the root's
-/// first entry the bitmap and the root's inode.
-pub fn stage(batch: &mut Batch, metadata: &Metadata, made: u32)
+/// Puts the sectors of all that is touched into a batch: those of the inodes, of the directories' blocks and of the bitmap.
+pub fn stage(batch: &mut Batch, meta: &Meta, touched: &Touched)
     requires empty { batch.old ≡ [] }
-    requires inode { made < 128 }
-    ensures transaction { IsTransaction batch.new }
-    ensures images { batch.new ≡ transaction_of (state_of metadata.now) metadata.now.entries.items made }
-    ensures batch { (s : State) (mode : ℕ) (done : Done) → IsLaidOut s → (m : Makes s (new_file mode) done) → state_of metadata.now ≡ done.state → made ≡ lowest_unused s.layout.units s.tree.nodes
-        → IsBatch (volume s.layout) (parsed_of done.state) (entry_changes s.layout m.at (record { ino = made; name = m.name }) done.state.layout) batch.new }
+    requires few { most touched.now ≤ 4 }
+    ensures few { length batch.new ≤ 16 }
+    ensures inside { All IsInside batch.new }
+    ensures right { (s : State) → IsMounted s → IsStateOf meta.now s → AllByRecursion (λ e. content_at (volume s.layout) (parsed_of s) e.0 ≡ Some e.1) batch.new }
+    ensures whole { (s : State) → IsMounted s → IsStateOf meta.now s → HasTouched s touched.now batch.new }
 {
     sector_contents();
-    whole_batch();
-    stage_first(batch, metadata);
-    batch.set(
-        SectorNo::new(INODES + made / 2),
-        &inode_pair(metadata, made / 2),
-    );
-    let block = root_block(metadata);
-    batch.set(SectorNo::new(ROOT_SECTOR), &sector_part(&block, 0));
-    batch.set(SectorNo::new(ROOT_SECTOR + 1), &sector_part(&block, 1));
-}
-
-/// Where the root has its first entry, its block is new: the bitmap and its inode have changed.
-fn stage_first(batch: &mut Batch, metadata: &Metadata)
-    requires { batch.old ≡ [] }
-    ensures part { IsPart 2 batch.new }
-    ensures images { batch.new ≡ first_images (state_of metadata.now) metadata.now.entries.items }
-{
-    if metadata.entries.len() == 1 {
-        batch.set(SectorNo::new(BITMAP), &bits_of_unit(true));
-        batch.set(
-            SectorNo::new(INODES + ROOT / 2),
-            &inode_pair(metadata, ROOT / 2),
-        );
+    claims();
+    stage_inodes(batch, meta, touched.inodes());
+    for ino in touched.directories() {
+        if let Some(directory) = meta.directory(*ino) {
+            stage_blocks(batch, directory);
+        }
+    }
+    if !touched.units().is_empty() {
+        batch.set(SectorNo::new(BITMAP), &bitmap(meta));
     }
 }
 
-/// The bitmap of the only unit: its own block and those of the inodes are in use, and the root's block where that is there.
-pub fn bits_of_unit(root_block: bool) -> [u8; 512]
-    ensures { result ≡ bitmap_bytes root_block }
+/// Puts the sectors of inodes.
+fn stage_inodes(batch: &mut Batch, meta: &Meta, inodes: &[Ino])
+    requires empty { batch.old ≡ [] }
+    requires few { length inodes.now ≤ 4 }
+    ensures few { length batch.new ≤ 4 }
+    ensures inside { All IsInside batch.new }
 {
-    let mut used = [false; 4096];
-    for j in 0..33 {
-        used[j] = true;
+    for ino in inodes {
+        if ino.get() < INODE_COUNT {
+            let pair = ino.get() / 2;
+            batch.set(SectorNo::new(INODES + pair), &inode_pair(meta, pair));
+        }
     }
-    used[33] = root_block;
-    write_bits(&used)
 }
 
 /// The sector of inodes 2 `pair` and 2 `pair` + 1.
-fn inode_pair(metadata: &Metadata, pair: u32) -> [u8; 512]
+fn inode_pair(meta: &Meta, pair: u32) -> [u8; 512]
     requires { pair < 64 }
-    ensures { result ≡ pair_bytes (state_of metadata.now) pair }
 {
-    let even = inode_value(metadata, 2 * pair);
-    let odd = inode_value(metadata, 2 * pair + 1);
+    let even = meta.inode_value(Ino::new(2 * pair));
+    let odd = meta.inode_value(Ino::new(2 * pair + 1));
     inode_sector(even.as_ref(), odd.as_ref())
 }
 
-/// What an inode's slot says; none where the number is unused.
-fn inode_value(metadata: &Metadata, ino: u32) -> Option<InodeValue>
-    ensures { result ≡ inode_value (state_of metadata.now) ino }
-{
-    match metadata.nodes.get(ino) {
-        None => None,
-        Some(PlainNode::File(file)) => Some(InodeValue {
-            inode: Inode {
-                kind: FileKind::File,
-                mode: file.mode,
-                nlink: file.nlink,
-                size: file.bytes.len() as u64,
-                attrs: file.attrs,
-            },
-            maps: 0,
-            extents: 0,
-            first: [None; 6],
-            map: None,
-        }),
-        Some(PlainNode::Directory(directory)) => Some(directory_value(
-            directory.mode,
-            &metadata.entries,
-        )),
+/// Puts the sectors of a directory's blocks.
+fn stage_blocks(batch: &mut Batch, directory: &Directory) {
+    for i in 0..directory.at().len() {
+        let first = 2 * directory.at()[i].get();
+        let block = write_dir::<1024>(directory.names().block(i as u32));
+        batch.set(SectorNo::new(first), &sector_part(&block, 0));
+        batch.set(SectorNo::new(first + 1), &sector_part(&block, 1));
     }
 }
 
-/// The root's slot, whose block is there where it has entries.
-pub fn directory_value(mode: u16, entries: &[DirEntry]) -> InodeValue
-    ensures { (names : Entries) → result ≡ inode_for (root_blocks entries.now) (IsDirectory (record { mode = mode; entries = names })) }
-{
-    let block = Extent {
-        page: Page::new(0),
-        start: Block::new(ROOT_BLOCK),
-        len: 1,
-        kind: Kind::Data,
-    };
-    let first = if entries.is_empty() {
-        None
-    } else {
-        Some(block)
-    };
-    let blocks = if entries.is_empty() { 0 } else { 1 };
-    InodeValue {
-        inode: Inode {
-            kind: FileKind::Directory,
-            mode,
-            nlink: 1,
-            size: 1024 * u64::from(blocks),
-            attrs: NO_ATTRS,
-        },
-        maps: 0,
-        extents: blocks,
-        first: [first, None, None, None, None, None],
-        map: None,
+/// The bitmap of the only unit: its own block, those of the inodes, and the data blocks that directories have are in use.
+fn bitmap(meta: &Meta) -> [u8; 512] {
+    let mut used = [true; 4096];
+    for j in FIRST_DATA..4096 {
+        used[j] = meta.is_claimed(Block::new(UNIT + j as u32));
     }
-}
-
-fn root_block(metadata: &Metadata) -> [u8; 1024]
-    ensures { result ≡ dir_bytes 1024 metadata.now.entries.items }
-{
-    let _used = metadata.used;
-    write_dir::<1024>(&metadata.entries)
+    write_bits(&used)
 }

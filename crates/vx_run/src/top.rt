@@ -6,7 +6,6 @@ ghost use Rattle.vx_run.specs.Ends.{Asks, IsUnasked, HasEnded, IsRan};
 ghost use Rattle.vx_run.specs.Outcomes.{end_of, HasShortHistory};
 
 use crate::engine::Core;
-use crate::format::format;
 use crate::gate::Gate;
 use crate::outcome::Outcome;
 use crate::read::{ReadRefusal, read_all};
@@ -16,6 +15,7 @@ use std::sync::Wait;
 use std::thread::Threads;
 use vx_base::{Call, Event, History, Sink, Source};
 use vx_dev::BlockDev;
+use vx_kernel::format;
 use vx_model::states::fresh_reads;
 use vx_script::{StartRefusal, parse, render, render_refusal, script_law};
 
