@@ -1,3 +1,4 @@
+mod Places
 mod NoteOrder
 mod HomeRuns
 pub mod Notes

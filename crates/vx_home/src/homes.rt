@@ -4,6 +4,7 @@ ghost use Rattle.vx_base.specs.Faults.{HasCause};
 ghost use Rattle.vx_log.specs.Batches.{batch_set, IsPlaceOf, StandsAt, LacksAt};
 ghost use Rattle.vx_log.specs.Runs.{Ran, BrokeOff, puts};
 ghost use Rattle.vx_home.specs.Homes.{IsHomes, HasPlace, with_notes};
+ghost use Rattle.vx_home.specs.Indexes.{ArePlaces, named, bare};
 
 use std::alloc::{AllocError, Global};
 use std::marker::Model;
@@ -16,21 +17,24 @@ pub type AfterImage = (SectorNo, [u8; 512]);
 /// The most sectors that are noted.
 const MOST_SECTORS: usize = 1024;
 
-/// The last committed after-image of each sector that is not home yet, rising in sector.
+/// The last committed after-image of each sector that is not home yet.
 #[derive(Drop)]
 pub struct Homes {
-    entries: Vec<AfterImage>,
+    /// The sectors, rising, each with the place of its image.
+    index: Vec<(SectorNo, usize)>,
+    /// The images, in the order in which their sectors came.
+    images: Vec<[u8; 512]>,
 }
 
 impl Model for Homes {
     ghost use Rattle.std.specs.Prelude.{ℕ, ◌≤◌, List, vec_capacity};
-    ghost use Rattle.vx_home.specs.Homes.{IsHomes};
+    ghost use Rattle.vx_home.specs.Indexes.{IsIndex, named};
 
     ghost Value = { List (ℕ × List ℕ) };
 
-    ghost view = { λ h. h.entries.items };
+    ghost view = { λ h. named h.index.items h.images.items };
 
-    ghost invariant = { λ h. IsHomes h.entries.items × (1024 ≤ vec_capacity h.entries) };
+    ghost invariant = { λ h. IsIndex h.index.items h.images.items × (1024 ≤ vec_capacity h.index) × (1024 ≤ vec_capacity h.images) };
 }
 
 impl Homes {
@@ -38,8 +42,9 @@ impl Homes {
     pub fn new(alloc: Global) -> Result<Self, AllocError>
         ensures { IfOk result (λ homes. homes ≡ []) }
     {
-        let entries = Vec::with_capacity(alloc, MOST_SECTORS)?;
-        Ok(Homes { entries })
+        let index = Vec::with_capacity(alloc, MOST_SECTORS)?;
+        let images = Vec::with_capacity(alloc, MOST_SECTORS)?;
+        Ok(Homes { index, images })
     }
 
     /// The number of sectors that are noted, at most 1,024.
@@ -47,7 +52,7 @@ impl Homes {
         ensures number { result ≡ length self.now }
         ensures homes { IsHomes self.now }
     {
-        self.entries.len() as u32
+        self.index.len() as u32
     }
 
     /// Notes what a sector is to hold, in place of what was noted of it.
@@ -55,12 +60,19 @@ impl Homes {
         requires { HasPlace self.old s }
         ensures { self.new ≡ batch_set self.old s image.now }
     {
-        match find(self.entries.as_slice(), s) {
-            Ok(at) => self.entries[at] = (s, *image),
-            Err(at) => match self.entries.insert(at, (s, *image)) {
-                Ok(()) => {}
-                Err(_) => unreachable!(),
-            },
+        match find(self.index.as_slice(), s) {
+            Ok(at) => self.images[self.index[at].1] = *image,
+            Err(at) => {
+                let place = self.images.len();
+                match self.images.push(*image) {
+                    Ok(()) => {}
+                    Err(_) => unreachable!(),
+                }
+                match self.index.insert(at, (s, place)) {
+                    Ok(()) => {}
+                    Err(_) => unreachable!(),
+                }
+            }
         }
     }
 
@@ -85,8 +97,9 @@ impl Homes {
         ensures reads { (D.state dev.new).read_faults ≡ (D.state dev.old).read_faults }
         ensures cause { HasCause (D.state dev.old).write_faults (D.state dev.new).write_faults result }
     {
-        put_each(dev, self.entries.as_slice())?;
-        self.entries.clear();
+        put_each(dev, self.index.as_slice(), self.images.as_slice())?;
+        self.index.clear();
+        self.images.clear();
         Ok(())
     }
 }
@@ -102,40 +115,46 @@ fn note_each(homes: &mut Homes, batch: &[AfterImage])
 }
 
 /// Writes one sector after another.
-fn put_each<D: BlockDev>(dev: &mut D, entries: &[AfterImage]) -> Result<(), DevFault>
-    requires { All (λ e. e.0 < (D.state dev.old).size) entries.now }
-    ensures ran { OnOk result (Ran (puts entries.now) (D.state dev.old) (D.state dev.new)) }
+fn put_each<D: BlockDev>(
+    dev: &mut D,
+    index: &[(SectorNo, usize)],
+    images: &[[u8; 512]],
+) -> Result<(), DevFault>
+    requires places { ArePlaces (length images.now) index.now }
+    requires short { length images.now ≤ 1024 }
+    requires inside { All (λ e. e.0 < (D.state dev.old).size) (named index.now images.now) }
+    ensures ran { OnOk result (Ran (puts (named index.now images.now)) (D.state dev.old) (D.state dev.new)) }
     ensures certain { OnOk result ((D.state dev.new).doubt ≡ (D.state dev.old).doubt) }
-    ensures broke { OnErr result (BrokeOff entries.now (D.state dev.old) (D.state dev.new)) }
+    ensures broke { OnErr result (BrokeOff (named index.now images.now) (D.state dev.old) (D.state dev.new)) }
     ensures size { (D.state dev.new).size ≡ (D.state dev.old).size }
     ensures later { (D.state dev.old).count ≤ (D.state dev.new).count }
     ensures reads { (D.state dev.new).read_faults ≡ (D.state dev.old).read_faults }
     ensures cause { HasCause (D.state dev.old).write_faults (D.state dev.new).write_faults result }
 {
-    for entry in entries {
-        dev.write(u64::from(entry.0.get()), &entry.1)?;
+    for entry in index {
+        dev.write(u64::from(entry.0.get()), &images[entry.1])?;
     }
     Ok(())
 }
 
-/// The place of the sector, or where it would be put.
-fn find(entries: &[AfterImage], s: SectorNo) -> Result<usize, usize>
-    requires { IsHomes entries.now }
-    ensures found { IfOk result (StandsAt entries.now s) }
-    ensures missing { IfErr result (LacksAt entries.now s) }
+/// The place of the sector in the index, or where it would be put.
+fn find(index: &[(SectorNo, usize)], s: SectorNo) -> Result<usize, usize>
+    requires { IsHomes (bare index.now) }
+    ensures found { IfOk result (StandsAt (bare index.now) s) }
+    ensures missing { IfErr result (LacksAt (bare index.now) s) }
 {
-    let at = place_of(entries, s);
-    if at < entries.len() && entries[at].0 == s {
+    let at = place_of(index, s);
+    if at < index.len() && index[at].0 == s {
         Ok(at)
     } else {
         Err(at)
     }
 }
 
-/// The first place whose sector is not below `s`.
-fn place_of(entries: &[AfterImage], s: SectorNo) -> usize
-    requires { IsHomes entries.now }
-    ensures { IsPlaceOf entries.now s result }
+/// The first place of the index whose sector is not below `s`.
+fn place_of(index: &[(SectorNo, usize)], s: SectorNo) -> usize
+    requires { IsHomes (bare index.now) }
+    ensures { IsPlaceOf (bare index.now) s result }
 {
-    entries.partition_point(|e| e.0.get() < s.get())
+    index.partition_point(|e| e.0.get() < s.get())
 }
