@@ -9,12 +9,14 @@ use vx_dev::{BlockDev, FuseDev, Image, MemDisk, Operation, pick_image};
 
 const SECTORS: u64 = 9_220;
 
-const ROOM: u64 = 400;
+/// The operations that a disk has room for.
+const ROOM: u64 = 8_000;
 
 /// The operations of a format.
 const FORMAT: u64 = 70;
 
-const EXAMPLE: &[u8] = b"sessions 1\n0 create /a 644\n0 list /\n0 create /a 600\n";
+const EXAMPLE: &[u8] =
+    b"sessions 1\n0 create /a 644\n0 list /\n0 create /a 600\n0 stat /\n";
 
 const ONE_CREATE: &[u8] = b"sessions 1\n0 create /a 644\n0 list /\n";
 
@@ -87,7 +89,7 @@ fn run_script<R: Threads + Wait + Sync>(
     fail_writes: &[u64],
 ) -> Result<Seen<MemDisk>, Fail> {
     let dev = disk(alloc, sectors, fail_writes)?;
-    run_on(rt, alloc, script, &[], 4096, dev)
+    run_on(rt, alloc, script, &[], 65_536, dev)
 }
 
 /// Whether this operation wrote bytes that begin so.
@@ -169,7 +171,7 @@ fn example(rt: HostRuntime) -> Result<(), Fail> {
     assert_eq!(rt; seen.status, 0);
     assert_eq!(rt;
         seen.out.as_slice(),
-        b"0 1 ok 3\n0 2 ok 1 a\n0 3 no 2 Exist\ndone calls=3 moves=0 from=0 to=0\n".as_slice()
+        b"0 1 ok 3\n0 2 ok 1 a\n0 3 no 2 Exist\n0 4 ok dir 2 0755 1\ndone calls=4 moves=0 from=0 to=0\n".as_slice()
     );
     assert_eq!(rt; seen.dev.ops(), 87);
     let descriptor = [
@@ -229,6 +231,114 @@ fn a_fourth_long_name_has_no_room(rt: HostRuntime) -> Result<(), Fail> {
         seen.out.as_slice(),
         b"0 1 ok 3\n0 2 ok 4\n0 3 ok 5\n0 4 no 10 TooBig 2048\ndone calls=4 moves=0 from=0 to=0\n".as_slice()
     );
+    Ok(())
+}
+
+#[test]
+fn directories(rt: HostRuntime) -> Result<(), Fail> {
+    let seen = run_script(
+        &rt,
+        rt.alloc(),
+        b"sessions 1\n0 mkdir /d 755\n0 mkdir /d/e 755\n0 rename /d /d/e/f\n0 rmdir /\n0 rmdir /d\n0 unlink /d\n0 stat /d/x\n0 chmod /d 700\n0 link /d /g\n0 stat /d\n",
+        SECTORS,
+        &[],
+    )?;
+    assert_eq!(rt; seen.status, 0);
+    assert_eq!(rt;
+        seen.out.as_slice(),
+        b"0 1 ok 3\n0 2 ok 4\n0 3 no 13 IntoItself\n0 4 no 14 RootFixed\n0 5 no 5 NotEmpty\n0 6 no 4 IsDir\n0 7 no 1 NoEnt\n0 8 ok\n0 9 no 4 IsDir\n0 10 ok dir 3 0700 1\ndone calls=10 moves=0 from=0 to=0\n".as_slice()
+    );
+    Ok(())
+}
+
+#[test]
+fn a_file_is_replaced(rt: HostRuntime) -> Result<(), Fail> {
+    let seen = run_script(
+        &rt,
+        rt.alloc(),
+        b"sessions 1\n0 mkdir /d 755\n0 create /a 644\n0 link /a /d/b\n0 create /c 600\n0 rename /c /d/b\n0 stat /a\n0 stat /d/b\n0 list /\n0 list /d\n0 create nowhere 644\n",
+        SECTORS,
+        &[],
+    )?;
+    assert_eq!(rt; seen.status, 0);
+    assert_eq!(rt;
+        seen.out.as_slice(),
+        b"0 1 ok 3\n0 2 ok 4\n0 3 ok\n0 4 ok 5\n0 5 ok\n0 6 ok file 4 0644 1 0\n0 7 ok file 5 0600 1 0\n0 8 ok 2 a d\n0 9 ok 1 b\n0 10 no 6 BadName\ndone calls=10 moves=0 from=0 to=0\n".as_slice()
+    );
+    Ok(())
+}
+
+/// A create of a name of three bytes.
+fn numbered_line(line: &mut Vec<u8>, number: u8) -> Result<(), AllocError> {
+    line.extend_from_slice(b"0 create /n")?;
+    line.push(b'a' + number / 16)?;
+    line.push(b'a' + number % 16)?;
+    line.extend_from_slice(b" 644\n")
+}
+
+#[test]
+fn inodes_run_out(rt: HostRuntime) -> Result<(), Fail> {
+    let alloc = rt.alloc();
+    let mut script = Vec::new(alloc);
+    script.extend_from_slice(b"sessions 1\n")?;
+    for number in 0..126u8 {
+        numbered_line(&mut script, number)?;
+    }
+    let seen = run_script(&rt, alloc, &script, SECTORS, &[])?;
+    assert_eq!(rt; seen.status, 0);
+    assert!(rt; seen.out.as_slice().starts_with(b"0 1 ok 3\n0 2 ok 4\n"));
+    assert!(rt;
+        seen.out.as_slice().ends_with(
+            b"0 125 ok 127\n0 126 no 9 NoInodes 126\ndone calls=126 moves=0 from=0 to=0\n"
+        )
+    );
+    Ok(())
+}
+
+/// A script of the same lines, so many times.
+fn repeated(alloc: Global, lines: &[u8], times: u32) -> Result<Vec<u8>, AllocError> {
+    let mut script = Vec::new(alloc);
+    script.extend_from_slice(b"sessions 1\n")?;
+    for _n in 0..times {
+        script.extend_from_slice(lines)?;
+    }
+    Ok(script)
+}
+
+/// Whether a history releases blocks that waited.
+fn releases(history: &History) -> bool {
+    history
+        .as_slice()
+        .iter()
+        .any(|event| matches!(event, Event::Release { .. }))
+}
+
+#[test]
+fn the_log_fills_and_wraps(rt: HostRuntime) -> Result<(), Fail> {
+    let alloc = rt.alloc();
+    let script = repeated(alloc, b"0 create /a 644\n0 unlink /a\n", 300)?;
+    let seen = run_script(&rt, alloc, &script, SECTORS, &[])?;
+    assert_eq!(rt; seen.status, 0);
+    assert!(rt; releases(&seen.history));
+    assert!(rt; seen.out.as_slice().ends_with(b"0 599 ok 3\n0 600 ok\ndone calls=600 moves=0 from=0 to=0\n"));
+    assert_eq!(rt; sector(seen.dev.image(), 0)[28], 1);
+    let head = sector(seen.dev.image(), 2);
+    assert_eq!(rt; number(&head, 16, 8), number(&head, 24, 8));
+    Ok(())
+}
+
+#[test]
+fn blocks_are_freed_and_used_again(rt: HostRuntime) -> Result<(), Fail> {
+    let alloc = rt.alloc();
+    let script = repeated(
+        alloc,
+        b"0 mkdir /d 755\n0 create /d/x 644\n0 unlink /d/x\n0 rmdir /d\n",
+        120,
+    )?;
+    let seen = run_script(&rt, alloc, &script, SECTORS, &[])?;
+    assert_eq!(rt; seen.status, 0);
+    assert!(rt; releases(&seen.history));
+    assert!(rt; seen.out.as_slice().ends_with(b"0 477 ok 3\n0 478 ok 4\n0 479 ok\n0 480 ok\ndone calls=480 moves=0 from=0 to=0\n"));
     Ok(())
 }
 
