@@ -17,3 +17,12 @@ pub mod EntryLists
 pub mod NameEdits
 pub mod Chains
 pub mod GivenUp
+pub mod Replies
+pub mod Lookups
+pub mod Successes
+pub mod NameChanges
+pub mod Counting
+pub mod Histories
+pub mod LinkNumbers
+pub mod Walking
+pub mod Loops

@@ -21,6 +21,7 @@ pub mod Contents
 pub mod LaidOut
 pub mod Touching
 pub mod EditLaws
+pub mod NameLaws
 pub mod Waiting
 pub mod Shapes
 pub mod Replays

@@ -4,6 +4,7 @@
 pub mod allowed;
 pub mod edits;
 pub mod images;
+pub mod laws;
 pub mod reads;
 pub mod states;
 pub mod waiting;

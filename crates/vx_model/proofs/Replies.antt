@@ -1,0 +1,115 @@
+-- What a call is answered tells what it leaves.
+use Rattle.std.proofs.Common.{◌≡◌, ℕ, Bool, true, false, cond, List, Option, Some, None, Ok, Err, refl, subst}
+use Rattle.std.specs.Prelude.{◌==◌}
+use Rattle.vx_base.specs.declared.call.Call.{Call}
+use Rattle.vx_base.specs.declared.call.Call.TheVariants as call
+use Rattle.vx_base.specs.declared.refusal.Refusal.{Refusal}
+use Rattle.vx_base.specs.declared.reply.Reply.TheVariants as say
+use Rattle.vx_model.specs.Outcome.{Maybe}
+use Rattle.vx_model.specs.Tree.{Node, IsFile, IsDirectory}
+use Rattle.vx_model.specs.State.{State, Done, settled}
+use Rattle.vx_model.specs.Making.{create, mkdir}
+use Rattle.vx_model.specs.Removing.{fine, unlink, rmdir}
+use Rattle.vx_model.specs.Linking.{link}
+use Rattle.vx_model.specs.Moving.{Move, replace_by, move_onto, rename}
+use Rattle.vx_model.specs.Naming.{stat_reply, list, stat, chmod}
+use Rattle.vx_model.specs.Step.{step}
+use Rattle.vx_model.proofs.Chains.{Always, bind_always, where_holds}
+
+-- an answer that is no refusal
+abbrev Answers : Done → Type 0
+Answers done = (why : Refusal) → done.reply ≡ say.Refused why → ⊥
+
+fine_answers : (s : State) → Answers (fine s)
+fine_answers s why h = absurd cc
+
+made_answers : (s : State) (ino : ℕ) → Answers (record { state = s; reply = say.Made ino })
+made_answers s ino why h = absurd cc
+
+module _ (s : State) (place : ℕ) where
+  replace_answers : (m : Move) (target : ℕ) (node : Node) → Always (replace_by s place m target node) Answers
+  replace_answers m target (IsDirectory d) = search (bind_always, where_holds, fine_answers) depth 12
+  replace_answers m target (IsFile f) = search (bind_always, fine_answers) depth 12
+
+  onto_by : (m : Move) (target : ℕ) (t : Bool) → Always (cond t (Ok (fine s)) (replace_by s place m target m.node)) Answers
+  onto_by m target true = fine_answers s
+  onto_by m target false = replace_answers m target m.node
+
+  onto_answers : (m : Move) (o : Option ℕ) → Always (move_onto s place m o) Answers
+  onto_answers m None = search (bind_always, fine_answers) depth 12
+  onto_answers m (Some target) = onto_by m target (target == m.from.ino)
+
+  stat_answers : (ino : ℕ) (node : Node) → Answers (record { state = s; reply = stat_reply ino node })
+  stat_answers ino (IsFile f) why h = absurd cc
+  stat_answers ino (IsDirectory d) why h = absurd cc
+
+  list_answers : (names : List (List ℕ)) → Answers (record { state = s; reply = say.Listing names })
+  list_answers names why h = absurd cc
+
+  of_settled : (done : Done) (m : Maybe Done) (why : Refusal) → Some (settled s m) ≡ Some done → done.reply ≡ say.Refused why → Always m Answers → done.state ≡ s
+  of_settled done (Ok x) why h refused a = let e : x ≡ done = cc in absurd (subst Answers e a why refused)
+  of_settled done (Err y) why h refused a =
+      let e : ◌≡◌ {A = Done} (record { state = s; reply = say.Refused y }) done = cc in
+      subst (λ (d : Done). d.state ≡ s) e refl
+
+  create_answers : (path : List ℕ) (mode : ℕ) → Always (create s path mode) Answers
+  create_answers path mode = search (bind_always, where_holds, made_answers) depth 12
+
+  mkdir_answers : (path : List ℕ) (mode : ℕ) → Always (mkdir s path mode) Answers
+  mkdir_answers path mode = search (bind_always, where_holds, made_answers) depth 12
+
+  unlink_answers : (path : List ℕ) → Always (unlink s place path) Answers
+  unlink_answers path = search (bind_always, fine_answers) depth 12
+
+  rmdir_answers : (path : List ℕ) → Always (rmdir s place path) Answers
+  rmdir_answers path = search (bind_always, where_holds, fine_answers) depth 12
+
+  link_answers : (old new : List ℕ) → Always (link s old new) Answers
+  link_answers old new = search (bind_always, where_holds, fine_answers) depth 16
+
+  rename_answers : (old new : List ℕ) → Always (rename s place old new) Answers
+  rename_answers old new = search (bind_always, where_holds, onto_answers) depth 16
+
+  chmod_answers : (path : List ℕ) (mode : ℕ) → Always (chmod s path mode) Answers
+  chmod_answers path mode = search (bind_always, fine_answers) depth 12
+
+  stat_path_answers : (path : List ℕ) → Always (stat s path) Answers
+  stat_path_answers path = search (bind_always, stat_answers) depth 12
+
+  list_path_answers : (path : List ℕ) → Always (list s path) Answers
+  list_path_answers path = search (bind_always, list_answers) depth 12
+
+  pub refused : (session : ℕ) (c : Call) (done : Done) (why : Refusal) → step s place session c ≡ Some done → done.reply ≡ say.Refused why → done.state ≡ s
+  refused session (call.Create path mode) done why h r = of_settled done (create s path mode) why h r (create_answers path mode)
+  refused session (call.Mkdir path mode) done why h r = of_settled done (mkdir s path mode) why h r (mkdir_answers path mode)
+  refused session (call.Unlink path) done why h r = of_settled done (unlink s place path) why h r (unlink_answers path)
+  refused session (call.Rmdir path) done why h r = of_settled done (rmdir s place path) why h r (rmdir_answers path)
+  refused session (call.Link old new) done why h r = of_settled done (link s old new) why h r (link_answers old new)
+  refused session (call.Rename old new) done why h r = of_settled done (rename s place old new) why h r (rename_answers old new)
+  refused session (call.Chmod path mode) done why h r = of_settled done (chmod s path mode) why h r (chmod_answers path mode)
+  refused session (call.Stat path) done why h r = of_settled done (stat s path) why h r (stat_path_answers path)
+  refused session (call.List path) done why h r = of_settled done (list s path) why h r (list_path_answers path)
+  refused session _ done why h r = absurd cc
+
+-- ---- calls that only ask
+
+abbrev Stays : State → Done → Type 0
+Stays s done = done.state ≡ s
+
+stays_settled : (s : State) (done : Done) (m : Maybe Done) → Some (settled s m) ≡ Some done → Always m (Stays s) → done.state ≡ s
+stays_settled s done (Ok x) h a = let e : x ≡ done = cc in subst (Stays s) e a
+stays_settled s done (Err why) h a =
+    let e : ◌≡◌ {A = Done} (record { state = s; reply = say.Refused why }) done = cc in
+    subst (Stays s) e refl
+
+stat_stays : (s : State) (path : List ℕ) → Always (stat s path) (Stays s)
+stat_stays s path = search bind_always depth 12
+
+list_stays : (s : State) (path : List ℕ) → Always (list s path) (Stays s)
+list_stays s path = search bind_always depth 12
+
+pub stat_leaves : (s : State) (place session : ℕ) (path : List ℕ) (done : Done) → step s place session (call.Stat path) ≡ Some done → done.state ≡ s
+stat_leaves s place session path done h = stays_settled s done (stat s path) h (stat_stays s path)
+
+pub list_leaves : (s : State) (place session : ℕ) (path : List ℕ) (done : Done) → step s place session (call.List path) ≡ Some done → done.state ≡ s
+list_leaves s place session path done h = stays_settled s done (list s path) h (list_stays s path)

@@ -1,0 +1,109 @@
+-- What names mean, and what calls do to them.
+use Rattle.std.specs.Prelude.{◌≡◌, ◌≢◌, ℕ, zero, suc, ◌+◌, ◌*◌, ◌<◌, ◌==◌, List, [], ◌∷◌, ◌++◌, Option, Some, None, Ok, Err, if◌then◌else◌}
+use Rattle.std.specs.List.{count_by}
+use Rattle.std.specs.FinMap as map
+use Rattle.vx_base.specs.declared.refusal.Refusal.TheVariants as no
+use Rattle.vx_base.specs.Paths.{FileName, split}
+use Rattle.vx_model.specs.Tree.{Nodes, Node, Directory, IsFile, IsDirectory}
+use Rattle.vx_model.specs.State.{State}
+use Rattle.vx_model.specs.Walks.{root, walk, inode_of}
+
+-- ---- what a name means
+
+abbrev pub meaning_in : FileName → Option Node → Option ℕ
+meaning_in name None = None
+meaning_in name (Some (IsFile f)) = None
+meaning_in name (Some (IsDirectory d)) = map.get d.entries name
+
+-- the inode that a name of a directory means; none where there is no such directory or name
+abbrev pub lookup : Nodes → ℕ → FileName → Option ℕ
+lookup nodes at name = meaning_in name (map.get nodes at)
+
+-- one of the two is another
+abbrev pub IsOther : ℕ → FileName → ℕ → FileName → Type 0
+IsOther at name q x = q ≡ at → x ≡ name → ⊥
+
+-- the path's last component is this name, and the others lead to this directory
+pub record LeadsTo (nodes : Nodes) (path : List ℕ) (at : ℕ) (name : FileName) : Type 0 where
+  pub above : List FileName
+  pub names : split path ≡ Some (above ++ name ∷ [])
+  pub walked : walk nodes root above ≡ Ok at
+
+-- ---- one name more, less or moved
+
+-- a new inode has the path's name in the path's directory, and nothing else has changed
+pub record IsCreated (old new : Nodes) (path : List ℕ) (node : Node) (ino : ℕ) : Type 0 where
+  pub at : ℕ
+  pub name : FileName
+  pub directory : Directory
+  pub leads : LeadsTo old path at name
+  pub was : map.get old at ≡ Some (IsDirectory directory)
+  pub new_name : map.get directory.entries name ≡ None
+  pub unused : map.get old ino ≡ None
+  pub walks : inode_of new path ≡ Ok ino
+  pub node_is : map.get new ino ≡ Some node
+  pub parent_is : map.get new at ≡ Some (IsDirectory (record directory { entries = map.insert directory.entries name ino }))
+  pub others : (n : ℕ) → n ≢ at → n ≢ ino → map.get new n ≡ map.get old n
+
+-- the path's name means nothing, each other name means what it meant, and only its directory and its inode have changed
+pub record IsRemoved (old new : Nodes) (path : List ℕ) : Type 0 where
+  pub at : ℕ
+  pub name : FileName
+  pub ino : ℕ
+  pub leads : LeadsTo old path at name
+  pub meant : lookup old at name ≡ Some ino
+  pub nothing : inode_of new path ≡ Err no.NoEnt
+  pub gone : lookup new at name ≡ None
+  pub others : (q : ℕ) (x : FileName) → IsOther at name q x → lookup new q x ≡ lookup old q x
+  pub nodes : (n : ℕ) → n ≢ at → n ≢ ino → map.get new n ≡ map.get old n
+
+-- the new name means what the old one meant, the old one nothing, and each other name what it meant; only the directories and an
+-- inode that had the new name have changed
+pub record IsRenamed (old new : Nodes) (from to : List ℕ) : Type 0 where
+  pub at : ℕ
+  pub name : FileName
+  pub ino : ℕ
+  pub new_at : ℕ
+  pub new_name : FileName
+  pub leads : LeadsTo old from at name
+  pub new_leads : LeadsTo old to new_at new_name
+  pub meant : lookup old at name ≡ Some ino
+  pub means : lookup new new_at new_name ≡ Some ino
+  pub gone : lookup new at name ≡ None
+  pub others : (q : ℕ) (x : FileName) → IsOther at name q x → IsOther new_at new_name q x → lookup new q x ≡ lookup old q x
+  pub nodes : (n : ℕ) → n ≢ at → n ≢ new_at → lookup old new_at new_name ≢ Some n → map.get new n ≡ map.get old n
+
+-- ---- link numbers
+
+-- how many entries of a node mean the inode
+abbrev pub names_in : ℕ → Option Node → ℕ
+names_in ino None = 0
+names_in ino (Some (IsFile f)) = 0
+names_in ino (Some (IsDirectory d)) = count_by (λ i. i == ino) (map.values d.entries)
+
+-- how many names the inode has in the directories of numbers below n
+unfoldable pub name_count : Nodes → ℕ → ℕ → ℕ
+name_count nodes zero ino = 0
+name_count nodes (suc n) ino = names_in ino (map.get nodes n) + name_count nodes n ino
+
+-- how many names an inode should have: a file its link number, a directory one, the root and an unused number none
+abbrev pub link_number : ℕ → Option Node → ℕ
+link_number ino None = 0
+link_number ino (Some (IsFile f)) = f.nlink
+link_number ino (Some (IsDirectory d)) = if ino == root then 0 else 1
+
+pub record HasLinks (s : State) : Type 0 where
+  pub low : (n : ℕ) (node : Node) → map.get s.tree.nodes n ≡ Some node → n < 128 * s.layout.units
+  pub links : (n : ℕ) → name_count s.tree.nodes (128 * s.layout.units) n ≡ link_number n (map.get s.tree.nodes n)
+
+-- ---- loops
+
+-- one name or more lead from one inode to another
+pub record Reaches (nodes : Nodes) (from to : ℕ) : Type 0 where
+  pub first : FileName
+  pub rest : List FileName
+  pub walked : walk nodes from (first ∷ rest) ≡ Ok to
+
+-- no inode is below itself
+abbrev pub HasNoLoops : Nodes → Type 0
+HasNoLoops nodes = (ino : ℕ) → Reaches nodes ino ino → ⊥
