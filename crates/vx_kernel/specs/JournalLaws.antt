@@ -19,6 +19,7 @@ use Rattle.vx_model.specs.Layout.{volume}
 use Rattle.vx_model.specs.Images as images
 use Rattle.vx_model.specs.Images.{Parsed, content_at, is_metadata, IsBatch, Says}
 use Rattle.vx_model.specs.LaidOut.{IsLaidOut}
+use Rattle.vx_model.specs.Legal.{with_released}
 use Rattle.vx_model.specs.Reads.{ImageReadsAs}
 use Rattle.vx_model.specs.State.{State}
 use Rattle.vx_home.specs.NoteLaws.{NoteLaws}
@@ -38,6 +39,7 @@ pub record JournalLaws : Type 0 where
       → (s : ℕ) → IsTrue (is_metadata unit_volume new s) → IsTrue (is_metadata unit_volume old s) ⊎ ((x y : List ℕ) → overlay batch s x ≡ overlay batch s y)
   pub parts : (p : Parsed) (b i : ℕ) → IsTrue (is_data unit_volume b) → i < 2
       → content_at unit_volume p (block_sector 2 b + i) ≡ option_map (λ es. sector_part i (dir_bytes 1024 es)) (p.blocks b)
+  pub released : (s : State) (upto : ℕ) → parsed_of (with_released s upto) ≡ parsed_of s
   pub reads : (s : State) (image : ℕ → List ℕ) → IsLaidOut s → images.Stands (volume s.layout) (parsed_of s) image → ImageReadsAs (volume s.layout) image s.tree
   -- ---- batches
   pub records : (batch : List AfterImage) (s : ℕ) (x : List ℕ) → overlay_all (records_of batch) s x ≡ overlay batch s x

@@ -1,5 +1,5 @@
 //! The log and the homes of a mount: commits, the emptying of the log, and unmounting.
-ghost use Rattle.std.specs.Prelude.{◌≡◌, ◌⊎◌, ◌<◌, ◌≤◌, ◌+◌, ◌^◌, OnOk, OnErr, IfOk, IsTrue, None, [], length, All, ℕ, true};
+ghost use Rattle.std.specs.Prelude.{◌≡◌, ◌⊎◌, ◌<◌, ◌≤◌, ◌+◌, ◌-◌, ◌^◌, OnOk, OnErr, IfOk, IsTrue, nat_lt, None, [], length, All, ℕ};
 ghost use Rattle.vx_base.specs.Faults.{HasCause};
 ghost use Rattle.vx_layout.specs.LogForms.{log_length};
 ghost use Rattle.vx_log.specs.Logs.{fresh_log};
@@ -88,6 +88,7 @@ impl Journal {
         requires size { 9220 ≤ (D.state dev.old).size }
         ensures idle { OnOk result (IsIdle self.new) }
         ensures ready { self.new.ready ≡ self.old.ready }
+        ensures emptied { IfOk result (λ emptied. emptied ≡ nat_lt (1024 - (self.old.log.head - self.old.log.tail)) sectors) }
         ensures room { OnOk result (self.new.log.head + sectors ≤ self.new.log.tail + 1024) }
         ensures head { self.new.log.head ≡ self.old.log.head }
         ensures kept { (s : State) → IsMounted s → Told (D.state dev.old) (IsKept self.old.log self.old.homes s)
@@ -124,7 +125,9 @@ impl Journal {
         ensures onward { Onward (D.state dev.old) (D.state dev.new) }
         ensures cause { HasCause (D.state dev.old).write_faults (D.state dev.new).write_faults result }
     {
+        // The proof wants to know that the noted sectors rise.
         journal_laws();
+        let _noted = self.homes.len();
         if self.log.tail() == self.log.head() {
             return Ok(());
         }

@@ -5,6 +5,7 @@ use vx_dev::tape_laws;
 use vx_home::note_laws;
 use vx_layout::super_places;
 use vx_log::{batch_laws, home_laws, image_laws};
+use vx_model::edits::edit_laws;
 use vx_model::images::{log_says, metadata, sector_contents};
 use vx_model::states::state_reads;
 
@@ -22,4 +23,5 @@ pub fn journal_laws()
     sector_contents();
     note_laws();
     state_reads();
+    edit_laws();
 }

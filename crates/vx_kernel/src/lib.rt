@@ -9,3 +9,6 @@ mod laws;
 
 pub use formatting::{LOG_BLOCKS, format};
 pub use journal::Journal;
+
+#[cfg(test)]
+mod tests;
