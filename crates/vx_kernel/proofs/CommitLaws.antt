@@ -25,6 +25,7 @@ use Rattle.vx_kernel.specs.Devices.{IsInside}
 use Rattle.vx_kernel.specs.Journals.{IsIdle, IsAtRest, IsChange, IsReadingOf, IsUnnamed, IsNoted, IsKept}
 use Rattle.vx_kernel.specs.declared.journal.Journal.{Journal}
 use Rattle.vx_kernel.specs.JournalLaws.{unit_volume, JournalLaws}
+use Rattle.vx_kernel.proofs.EmptyLaws.{still_passed}
 use Rattle.vx_kernel.proofs.ReplayLaws.{or_left, or_right, or_cases, and_left, mounted_volume, says_of, low_not_noted, super_unnamed, kept_replays, blank, blank_reading, reading_at, nothing_told, told_cases, told_at, untold, passed_untold}
 
 overlay_all-append : (rs qs : List (List AfterImage)) (s : ℕ) (x : List ℕ) → overlay_all (rs ++ qs) s x ≡ overlay_all qs s (overlay_all rs s x)
@@ -258,3 +259,44 @@ module _ (laws : JournalLaws) (old new : State) (batch : List AfterImage) (chang
           })
           (stands r (next_metadata r k.is_reading) (commits_at t k) (stands_at t k is))
     ]
+
+-- ---- a transaction of no sector
+
+module _ (laws : JournalLaws) (s new : State) (batch : List AfterImage) (none : batch ≡ []) (change : IsChange s new batch) where
+  lacks : IsBatch unit_volume (parsed_of s) (parsed_of new) []
+  lacks = subst (IsBatch unit_volume (parsed_of s) (parsed_of new)) none
+      (subst (λ (v : Volume). IsBatch v (parsed_of s) (parsed_of new) batch) (mounted_volume new change.new_mounted) change.is_batch)
+
+  same_says : (r : LogState) → IsReadingOf s r → Says unit_volume (parsed_of new) r
+  same_says r k =
+      let says = says_of s r change.mounted k in
+      laws.says_next (parsed_of s) (parsed_of new) [] r r says lacks
+      (λ q there. elim (laws.covered (parsed_of s) (parsed_of new) [] lacks q there) [
+        | inl before ↦ says.sectors q before
+        | inr any ↦ absurd (let wrong : ◌≡◌ {A = List ℕ} [] (0 ∷ []) = any [] (0 ∷ []) in cc)
+      ])
+      (λ q. refl)
+
+  pub nothing_kept : (log : LogView) (homes : List AfterImage) (t : Tape) → IsKept log homes s t → IsKept log homes new t
+  nothing_kept log homes t k = record {
+    reading = k.reading;
+    serial = k.serial;
+    tail = k.tail;
+    head = k.head;
+    is_reading = record {
+      says = subst (λ (v : Volume). Says v (parsed_of new) k.reading) (sym (mounted_volume new change.new_mounted)) (same_says k.reading k.is_reading);
+      superblock = k.is_reading.superblock;
+      superblock_is = k.is_reading.superblock_is;
+      limit = k.is_reading.limit;
+      form = k.is_reading.form;
+    };
+    stands = k.stands;
+    noted = k.noted;
+    apart = λ b i free lt. k.apart b i (change.frees_none b free) lt;
+  }
+
+  pub nothing_passed : (log : LogView) → log.sectors ≡ 1024 → (homes : List AfterImage) → AllByRecursion IsInside homes → (a : Device) → Told a (IsKept log homes s)
+      → Passed (λ image. ReplaysAs image s.tree ⊎ ReplaysAs image new.tree) a a
+  nothing_passed log sectors homes inside a h =
+      passed_weaker (λ image. ReplaysAs image s.tree) (λ image. ReplaysAs image s.tree ⊎ ReplaysAs image new.tree) a a (λ image replays. inl replays)
+      (still_passed laws s change.mounted log sectors homes inside a h)

@@ -55,11 +55,10 @@ impl Journal {
         }
     }
 
-    /// Makes a transaction durable: its sectors go into the log, and the head sector then names them.
+    /// Makes a transaction durable: its sectors go into the log, and the head sector then names them. Nothing is done where it has none.
     pub fn commit<D: BlockDev>(&mut self, dev: &mut D, batch: Batch) -> Result<(), DevFault>
         requires idle { IsIdle self.old }
         requires size { 9220 ≤ (D.state dev.old).size }
-        requires some { 0 < length batch }
         requires inside { All IsInside batch }
         requires room { self.old.log.head + log_length (length batch) ≤ self.old.log.tail + 1024 }
         requires limit { self.old.log.head + log_length (length batch) ≤ 2 ^ 62 }
@@ -75,6 +74,10 @@ impl Journal {
         // What the proof rests on; nothing is done here.
         journal_laws();
         let _count = batch.len();
+        if batch.is_empty() {
+            self.ready = Some(batch);
+            return Ok(());
+        }
         self.homes.note_all(batch.entries());
         self.log.commit(dev, batch)?;
         self.ready = self.log.take_back();

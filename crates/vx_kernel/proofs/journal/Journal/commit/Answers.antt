@@ -1,10 +1,11 @@
 use Rattle.std.proofs.Common.{◌≡◌, ◌∙◌, List, ap, subst, sym}
 use Rattle.vx_layout.specs.LogForms.{AfterImage}
 use Rattle.vx_log.specs.Moments.{Told}
+use Rattle.vx_log.proofs.Passing.{told_weaker}
 use Rattle.vx_home.specs.Homes.{with_notes}
 use Rattle.vx_kernel.specs.Journals.{IsKept}
 use Rattle.vx_kernel.proofs.ReplayLaws.{each}
-use Rattle.vx_kernel.proofs.CommitLaws.{rests, commit_passed, commit_kept}
+use Rattle.vx_kernel.proofs.CommitLaws.{rests, commit_passed, commit_kept, nothing_kept, nothing_passed}
 use Rattle.vx_kernel.proofs.journal.Journal.commit.Goals as goal
 
 pub returns-in_err-commit-clause-passed : goal.returns-in_err-commit-clause-passed
@@ -39,3 +40,15 @@ returns-clause-passed g c = λ s new change told.
     let batch = c.args.batch in
     commit_passed c.journal_laws.ensures s new batch change (each batch c.requires.inside) c.len-count.ensures.batch.rising old.log c.requires.idle.sectors old.homes (each old.homes c.requires.idle.inside) c.requires.limit
     (g.D.BlockDev.state c.args.dev.now) (g.D.BlockDev.state c.commit.new.dev) c.commit.ensures.passed told
+
+pub returns-then-is_empty-clause-passed : goal.returns-then-is_empty-clause-passed
+returns-then-is_empty-clause-passed g c = λ s new change told.
+    let old = c.args.self.now in
+    nothing_passed c.journal_laws.ensures s new c.args.batch (c.is_empty.ensures.0 c.if-is_empty.true) change old.log c.requires.idle.sectors old.homes (each old.homes c.requires.idle.inside)
+    (g.D.BlockDev.state c.args.dev.now) told
+
+pub returns-then-is_empty-clause-kept : goal.returns-then-is_empty-clause-kept
+returns-then-is_empty-clause-kept g c = λ s new change told.
+    let old = c.args.self.now in
+    told_weaker (g.D.BlockDev.state c.args.dev.now) (IsKept old.log old.homes s) (IsKept old.log old.homes new)
+    (λ t k. nothing_kept c.journal_laws.ensures s new c.args.batch (c.is_empty.ensures.0 c.if-is_empty.true) change old.log old.homes t k) told
