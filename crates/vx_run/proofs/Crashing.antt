@@ -1,5 +1,6 @@
 -- What a crash may leave, from one call to the next.
 use Rattle.std.proofs.Common.{◌≡◌, ◌⊎◌, ℕ, ◌+◌, ◌<◌, ◌≤◌, true, List, [], ◌∷◌, ◌++◌, length, Option, Some, None, refl, sym, ◌∙◌, ap, subst, inl, inr, arith, length-append, append_assoc, append-nil}
+use Rattle.std.specs.List.{AllByRecursion}
 use Rattle.std.specs.Prelude.{IfSome, IsSome, All, option_map}
 use Rattle.std.proofs.lemmas.Bool.{cases_lt}
 use Rattle.std.proofs.lemmas.List.{take-append-le, take_all}
@@ -8,22 +9,19 @@ use Rattle.vx_base.specs.declared.event.Event.{Event}
 use Rattle.vx_base.specs.declared.event.Event.TheVariants as event
 use Rattle.vx_base.specs.declared.reply.Reply.{Reply}
 use Rattle.vx_dev.specs.declared.device.Operation.{Operation}
-use Rattle.vx_dev.specs.Tape as dev
-use Rattle.vx_dev.specs.Tape.{Tape, upto, IsImage, IsInStep}
+use Rattle.vx_dev.specs.Tape.{Tape, upto, IsImage}
+use Rattle.vx_layout.specs.LogForms.{AfterImage}
 use Rattle.vx_log.specs.Logs.{LogView}
-use Rattle.vx_log.specs.Moments.{Told, Past, Always}
+use Rattle.vx_log.specs.Moments.{Past, Always}
 use Rattle.vx_log.specs.Runs.{did_all}
 use Rattle.vx_model.specs.Allowed.{come_by, is_refusal, IsAllowed}
-use Rattle.vx_model.specs.AllowedLaws.{IsPlaced, AllowedLaws}
-use Rattle.vx_model.specs.Legal.{World, after_all, state_after}
+use Rattle.vx_model.specs.AllowedLaws.{IsPlaced, IsQuiet, AllowedLaws}
+use Rattle.vx_model.specs.Legal.{World, after_all, at_of}
 use Rattle.vx_model.specs.Replays.{ReplaysAs}
 use Rattle.vx_model.specs.State.{State}
-use Rattle.vx_model.specs.Tree.{Tree}
 use Rattle.vx_model.proofs.Runs.{after_all-append}
-use Rattle.vx_run.specs.Cores.{beginning, IsReply, IsLive, IsMaking, IsUntouched, IsCarried}
-use Rattle.vx_run.specs.Journals.{IsMade, IsKept}
-use Rattle.vx_run.specs.declared.engine.Core.{Core}
-use Rattle.vx_run.specs.declared.kernel.Journal.{Journal}
+use Rattle.vx_run.specs.Cores.{beginning, IsLive, IsBetween, releases}
+use Rattle.vx_kernel.specs.Journals.{IsKept}
 use Rattle.vx_run.proofs.Ending.{none_is_not}
 
 -- ---- moments of a longer tape
@@ -48,150 +46,157 @@ always_now first P t past present m from le image is = elim (cases_lt m (length 
 ]
 
 -- the log and the homes stand for the state, where no write has failed
-pub kept_live : (opened : ℕ) (h : List Event) (s : State) (o : Option Tape) (disabled : Option ℕ) (log : LogView) (homes : List (Option (List ℕ))) → disabled ≡ None → IfSome o (IsLive opened h disabled log homes s)
+pub kept_live : (opened : ℕ) (h : List Event) (s : State) (o : Option Tape) (disabled : Option ℕ) (log : LogView) (homes : List AfterImage) → disabled ≡ None → IfSome o (IsLive opened h disabled log homes s)
     → IfSome o (IsKept log homes s)
 kept_live opened h s None disabled log homes none live = tt
 kept_live opened h s (Some t) disabled log homes none live = live.kept none
 
--- ---- a call and its answer
+-- ---- from one history to a longer one
 
-module _ (laws : AllowedLaws) (opened : ℕ) (h : List Event) (at later place line : ℕ) (call : Call) (reply answer : Reply)
-    (order : at ≤ later) (placed : All (IsPlaced (length h)) h) (came : (m : ℕ) → at ≤ m → come_by h m ≡ length h) where
-  abbrev longer : List Event
-  longer = (h ++ event.Do at 0 line call reply ∷ []) ++ event.Ret later place answer ∷ []
-
-  -- then the call was not answered yet, or it is refused
-  abbrev IsOpen : ℕ → Type 0
-  IsOpen m = (m < later) ⊎ (is_refusal answer ≡ true)
-
-  whole : h ++ event.Do at 0 line call reply ∷ event.Ret later place answer ∷ [] ≡ longer
-  whole = sym (append_assoc h (event.Do at 0 line call reply ∷ []) (event.Ret later place answer ∷ []))
-
-  stays : (m : ℕ) (image : ℕ → List ℕ) → IsOpen m → IsAllowed (beginning opened) h m image → IsAllowed (beginning opened) longer m image
-  stays m image open' is = subst (λ (es : List Event). IsAllowed (beginning opened) es m image) whole
-      (laws.later (beginning opened) h (event.Do at 0 line call reply ∷ event.Ret later place answer ∷ []) m image placed (tt, (open', tt)) is)
-
-  before : (m : ℕ) (image : ℕ → List ℕ) (tree : Tree) → at ≤ m → IsOpen m → tree ≡ (after_all (beginning opened) h).state.tree → ReplaysAs image tree → IsAllowed (beginning opened) longer m image
-  before m image tree from open' same replays = subst (λ (es : List Event). IsAllowed (beginning opened) es m image) whole
-      (laws.front (beginning opened) h (event.Do at 0 line call reply ∷ event.Ret later place answer ∷ []) m image tree placed (tt, (open', tt)) (omega (arith, came m from)) same replays)
-
-  placed_begun : All (IsPlaced (length (h ++ event.Do at 0 line call reply ∷ []))) (h ++ event.Do at 0 line call reply ∷ [])
-  placed_begun = laws.placed h (event.Do at 0 line call reply ∷ []) placed (tt, tt)
-
-  come_begun : (m : ℕ) → at ≤ m → come_by (h ++ event.Do at 0 line call reply ∷ []) m ≡ length (h ++ event.Do at 0 line call reply ∷ [])
-  come_begun m from = laws.come h (event.Do at 0 line call reply ∷ []) m (from, tt) ∙ omega (arith, came m from, length-append h (event.Do at 0 line call reply ∷ []))
-
-  behind : (m : ℕ) (image : ℕ → List ℕ) (tree : Tree) → at ≤ m → IsOpen m → tree ≡ (after_all (beginning opened) (h ++ event.Do at 0 line call reply ∷ [])).state.tree → ReplaysAs image tree
-      → IsAllowed (beginning opened) longer m image
-  behind m image tree from open' same replays = laws.front (beginning opened) (h ++ event.Do at 0 line call reply ∷ []) (event.Ret later place answer ∷ []) m image tree placed_begun (open', tt)
-      (omega (arith, come_begun m from)) same replays
-
-  pub placed_answered : place ≡ length h → All (IsPlaced (length longer)) longer
-  placed_answered at_end = laws.placed (h ++ event.Do at 0 line call reply ∷ []) (event.Ret later place answer ∷ []) placed_begun
-      (omega (arith, at_end, length-append h (event.Do at 0 line call reply ∷ []), length-append (h ++ event.Do at 0 line call reply ∷ []) (event.Ret later place answer ∷ [])), tt)
-
-  pub come_answered : (m : ℕ) → later ≤ m → come_by longer m ≡ length longer
-  come_answered m from = laws.come (h ++ event.Do at 0 line call reply ∷ []) (event.Ret later place answer ∷ []) m (from, tt)
-      ∙ omega (arith, come_begun m (omega (arith, order, from)), length-append (h ++ event.Do at 0 line call reply ∷ []) (event.Ret later place answer ∷ []))
-
-  -- on the way from the one state to the other
-  on_way : (s s2 : State) → (after_all (beginning opened) h).state ≡ s → (after_all (beginning opened) (h ++ event.Do at 0 line call reply ∷ [])).state ≡ s2
-      → (m : ℕ) (image : ℕ → List ℕ) → at ≤ m → IsOpen m → ReplaysAs image s.tree ⊎ ReplaysAs image s2.tree → IsAllowed (beginning opened) longer m image
-  on_way s s2 first last m image from open' (inl r) = before m image s.tree from open' (ap (λ (x : State). x.tree) (sym first)) r
-  on_way s s2 first last m image from open' (inr r) = behind m image s2.tree from open' (ap (λ (x : State). x.tree) (sym last)) r
-
-  past_carried : (s s2 : State) → (after_all (beginning opened) h).state ≡ s → (after_all (beginning opened) (h ++ event.Do at 0 line call reply ∷ [])).state ≡ s2
-      → (t : Tape) (ops : List Operation) → length t.ops ≡ at → length (did_all ops t).ops ≡ later → Past (opened + 70) (IsAllowed (beginning opened) h) t
-      → Always (length t.ops) (λ _ image. ReplaysAs image s.tree ⊎ ReplaysAs image s2.tree) (did_all ops t) → Past (opened + 70) (IsAllowed (beginning opened) longer) (did_all ops t)
-  past_carried s s2 first last t ops start end past always m from lt image is = elim (cases_lt m (length t.ops)) [
-    | inl early ↦ stays m image (inl (omega (arith, lt, end))) (past m from early image (subst (λ (u : Tape). IsImage u image) (upto-front m ops t (omega (arith, early))) is))
-    | inr on ↦ on_way s s2 first last m image (omega (arith, start, on)) (inl (omega (arith, lt, end))) (always m on (omega (arith, lt)) image is)
+module _ (opened start end : ℕ) (h longer : List Event) (early : (m : ℕ) (image : ℕ → List ℕ) → m < start → IsAllowed (beginning opened) h m image → IsAllowed (beginning opened) longer m image) where
+  past_on : (Q : (ℕ → List ℕ) → Type 0) → ((m : ℕ) (image : ℕ → List ℕ) → start ≤ m → m < end → Q image → IsAllowed (beginning opened) longer m image)
+      → (t : Tape) (ops : List Operation) → length t.ops ≡ start → length (did_all ops t).ops ≡ end → Past (opened + 70) (IsAllowed (beginning opened) h) t
+      → Always (length t.ops) (λ _ image. Q image) (did_all ops t) → Past (opened + 70) (IsAllowed (beginning opened) longer) (did_all ops t)
+  past_on Q way t ops begins ends past always m from lt image is = elim (cases_lt m (length t.ops)) [
+    | inl soon ↦ early m image (omega (arith, soon, begins)) (past m from soon image (subst (λ (u : Tape). IsImage u image) (upto-front m ops t (omega (arith, soon))) is))
+    | inr on ↦ way m image (omega (arith, begins, on)) (omega (arith, lt, ends)) (always m on (omega (arith, lt)) image is)
   ]
 
-  live_carried : (s s2 : State) → (after_all (beginning opened) h).state ≡ s → (after_all (beginning opened) (h ++ event.Do at 0 line call reply ∷ [])).state ≡ s2
-      → (o o2 : Option Tape) (ops : List Operation) (disabled : Option ℕ) (log : LogView) (homes : List (Option (List ℕ)))
-      → IfSome o (λ t. length t.ops ≡ at) → IfSome o2 (λ t. length t.ops ≡ later) → IfSome o (Past (opened + 70) (IsAllowed (beginning opened) h)) → o2 ≡ option_map (did_all ops) o
-      → IfSome o (λ t. Always (length t.ops) (λ _ image. ReplaysAs image s.tree ⊎ ReplaysAs image s2.tree) (did_all ops t))
-      → (disabled ≡ None → IfSome o2 (IsKept log homes s2)) → (IsSome disabled → is_refusal answer ≡ true)
-      → IfSome o2 (IsLive opened longer disabled log homes s2)
-  live_carried s s2 first last None o2 ops disabled log homes start end past told always kept refused = subst (λ (x : Option Tape). IfSome x (IsLive opened longer disabled log homes s2)) (sym told) tt
-  live_carried s s2 first last (Some t) o2 ops disabled log homes start end past told always kept refused =
-      let stop : length (did_all ops t).ops ≡ later = subst (λ (x : Option Tape). IfSome x (λ u. length u.ops ≡ later)) told end in
-      subst (λ (x : Option Tape). IfSome x (IsLive opened longer disabled log homes s2)) (sym told) (record {
-        past = past_carried s s2 first last t ops start stop past always;
-        kept = λ none. subst (λ (x : Option Tape). IfSome x (IsKept log homes s2)) told (kept none);
-        stopped = λ some image is.
-            let n = length (did_all ops t).ops in
-            let long : n ≡ length t.ops + length ops = length-append t.ops ops in
-            on_way s s2 first last n image (omega (arith, start, long)) (inr (refused some))
-            (always n (omega (arith, long)) (omega arith) image (subst (λ (u : Tape). IsImage u image) (sym (upto-all (did_all ops t))) is));
+  -- operations were done, and each image on the way is so
+  pub live_on : (Q : (ℕ → List ℕ) → Type 0) → ((m : ℕ) (image : ℕ → List ℕ) → start ≤ m → m < end → Q image → IsAllowed (beginning opened) longer m image)
+      → (s s2 : State) (o o2 : Option Tape) (ops : List Operation) (disabled was : Option ℕ) (log log2 : LogView) (homes homes2 : List AfterImage)
+      → IfSome o (λ t. length t.ops ≡ start) → IfSome o2 (λ t. length t.ops ≡ end) → IfSome o (IsLive opened h was log homes s) → o2 ≡ option_map (did_all ops) o
+      → IfSome o (λ t. Always (length t.ops) (λ _ image. Q image) (did_all ops t))
+      → (disabled ≡ None → IfSome o2 (IsKept log2 homes2 s2)) → (IsSome disabled → (image : ℕ → List ℕ) → Q image → start ≤ end → IsAllowed (beginning opened) longer end image)
+      → IfSome o2 (IsLive opened longer disabled log2 homes2 s2)
+  live_on Q way s s2 None o2 ops disabled was log log2 homes homes2 begins ends live told always kept stop = subst (λ (x : Option Tape). IfSome x (IsLive opened longer disabled log2 homes2 s2)) (sym told) tt
+  live_on Q way s s2 (Some t) o2 ops disabled was log log2 homes homes2 begins ends live told always kept stop =
+      let done : length (did_all ops t).ops ≡ end = subst (λ (x : Option Tape). IfSome x (λ u. length u.ops ≡ end)) told ends in
+      let long : length (did_all ops t).ops ≡ length t.ops + length ops = length-append t.ops ops in
+      subst (λ (x : Option Tape). IfSome x (IsLive opened longer disabled log2 homes2 s2)) (sym told) (record {
+        past = past_on Q way t ops begins done live.past always;
+        kept = λ none. subst (λ (x : Option Tape). IfSome x (IsKept log2 homes2 s2)) told (kept none);
+        stopped = λ some image is. subst (λ (k : ℕ). IsAllowed (beginning opened) longer k image) (sym done)
+            (stop some image (always (length (did_all ops t).ops) (omega (arith, long)) (omega arith) image (subst (λ (u : Tape). IsImage u image) (sym (upto-all (did_all ops t))) is)) (omega (arith, long, done, begins)));
       })
 
-  live_untouched : (s s2 : State) (o : Option Tape) (disabled : Option ℕ) (log : LogView) (homes : List (Option (List ℕ))) → IfSome o (λ t. length t.ops ≡ at)
-      → (disabled ≡ None → s2 ≡ s) → (IsSome disabled → is_refusal answer ≡ true) → IfSome o (IsLive opened h disabled log homes s) → IfSome o (IsLive opened longer disabled log homes s2)
-  live_untouched s s2 None disabled log homes start same refused live = tt
-  live_untouched s s2 (Some t) disabled log homes start same refused live = record {
-    past = λ m from lt image is. stays m image (inl (omega (arith, lt, start, order))) (live.past m from lt image is);
-    kept = λ none. subst (λ (x : State). IsKept log homes x t) (sym (same none)) (live.kept none);
-    stopped = λ some image is. stays (length t.ops) image (inr (refused some)) (live.stopped some image is);
+  -- nothing was done on the device
+  pub live_still : (s s2 : State) (o : Option Tape) (disabled : Option ℕ) (log : LogView) (homes : List AfterImage) → IfSome o (λ t. length t.ops ≡ start)
+      → (disabled ≡ None → (t : Tape) → IsKept log homes s t → IsKept log homes s2 t)
+      → (IsSome disabled → (image : ℕ → List ℕ) → IsAllowed (beginning opened) h start image → IsAllowed (beginning opened) longer start image)
+      → IfSome o (IsLive opened h disabled log homes s) → IfSome o (IsLive opened longer disabled log homes s2)
+  live_still s s2 None disabled log homes begins kept stop live = tt
+  live_still s s2 (Some t) disabled log homes begins kept stop live = record {
+    past = λ m from lt image is. early m image (omega (arith, lt, begins)) (live.past m from lt image is);
+    kept = λ none. kept none t (live.kept none);
+    stopped = λ some image is. subst (λ (k : ℕ). IsAllowed (beginning opened) longer k image) (sym begins)
+        (stop some image (subst (λ (k : ℕ). IsAllowed (beginning opened) h k image) begins (live.stopped some image is)));
   }
 
-  told_untouched : (s s2 : State) (d d2 : dev.State) (old new : Core) (copy : Reply) → IfSome d.told (λ t. length t.ops ≡ at) → (old.disabled ≡ None → s2 ≡ s)
-      → (IsSome old.disabled → is_refusal copy ≡ true) → Told d (IsLive opened h old.disabled old.journal.log old.journal.homes s) → IsUntouched d d2 old new copy answer
-      → Told d2 (IsLive opened longer new.disabled new.journal.log new.journal.homes s2)
-  told_untouched s s2 d d2 old new copy start same refused live un =
-      let refuses : IsSome old.disabled → is_refusal answer ≡ true = λ some. ap is_refusal un.answer_is ∙ refused some in
-      let now = live_untouched s s2 d.told old.disabled old.journal.log old.journal.homes start same refuses live in
-      let a = subst (λ (x : dev.State). Told x (IsLive opened longer old.disabled old.journal.log old.journal.homes s2)) (sym un.device) now in
-      let b = subst (λ (x : Journal). Told d2 (IsLive opened longer old.disabled x.log x.homes s2)) (sym un.journal) a in
-      subst (λ (x : Option ℕ). Told d2 (IsLive opened longer x new.journal.log new.journal.homes s2)) (sym un.disabled) b
+-- ---- events behind a history
 
-  past_now : (s : State) (o : Option Tape) (disabled : Option ℕ) (log : LogView) (homes : List (Option (List ℕ))) → IfSome o (IsLive opened h disabled log homes s)
-      → IfSome o (Past (opened + 70) (IsAllowed (beginning opened) h))
-  past_now s None disabled log homes live = tt
-  past_now s (Some t) disabled log homes live = live.past
+-- what a crash may leave stays allowed, where no event behind the history has answered by then
+pub stays : (laws : AllowedLaws) (opened : ℕ) (h events longer : List Event) (m : ℕ) (image : ℕ → List ℕ) → All (IsPlaced (length h)) h → h ++ events ≡ longer → AllByRecursion (IsQuiet m) events
+    → IsAllowed (beginning opened) h m image → IsAllowed (beginning opened) longer m image
+stays laws opened h events longer m image placed whole quiet is = subst (λ (es : List Event). IsAllowed (beginning opened) es m image) whole (laws.later (beginning opened) h events m image placed quiet is)
 
-  told_carried : (s s2 : State) → (after_all (beginning opened) h).state ≡ s → (after_all (beginning opened) (h ++ event.Do at 0 line call reply ∷ [])).state ≡ s2
-      → (d d2 : dev.State) (old new : Core) → IfSome d.told (λ t. length t.ops ≡ at) → IfSome d2.told (λ t. length t.ops ≡ later)
-      → Told d (IsLive opened h old.disabled old.journal.log old.journal.homes s) → IsCarried s s2 d d2 new answer → Told d2 (IsLive opened longer new.disabled new.journal.log new.journal.homes s2)
-  told_carried s s2 first last d d2 old new start end live is = live_carried s s2 first last d.told d2.told is.passed.ops new.disabled new.journal.log new.journal.homes start end
-      (past_now s d.told old.disabled old.journal.log old.journal.homes live) is.passed.told is.passed.always is.kept is.refused
+-- an image replays as the tree after the history
+pub replays : (laws : AllowedLaws) (opened : ℕ) (h events longer : List Event) (s : State) (m : ℕ) (image : ℕ → List ℕ) → All (IsPlaced (length h)) h → h ++ events ≡ longer → AllByRecursion (IsQuiet m) events
+    → come_by h m ≡ length h → (after_all (beginning opened) h).state.tree ≡ s.tree → ReplaysAs image s.tree → IsAllowed (beginning opened) longer m image
+replays laws opened h events longer s m image placed whole quiet came same is = subst (λ (es : List Event). IsAllowed (beginning opened) es m image) whole
+    (laws.front (beginning opened) h events m image s.tree placed quiet (omega (arith, came)) (sym same) is)
 
-  by_cases : (s s2 : State) → (after_all (beginning opened) h).state ≡ s → (after_all (beginning opened) (h ++ event.Do at 0 line call reply ∷ [])).state ≡ s2
-      → (d d2 : dev.State) (old new : Core) (copy : Reply) (made disabled : Option ℕ) → old.disabled ≡ disabled → IfSome d.told (λ t. length t.ops ≡ at) → IfSome d2.told (λ t. length t.ops ≡ later)
-      → IsMaking s s2 made → Told d (IsLive opened h old.disabled old.journal.log old.journal.homes s) → (IsSome old.disabled → is_refusal copy ≡ true)
-      → ((made ≡ None) ⊎ IsSome old.disabled → IsUntouched d d2 old new copy answer)
-      → ((x : State) (ino : ℕ) → made ≡ Some ino → old.disabled ≡ None → IsMade x s2 ino → Told d (IsKept old.journal.log old.journal.homes x) → IsCarried x s2 d d2 new answer)
-      → Told d2 (IsLive opened longer new.disabled new.journal.log new.journal.homes s2)
-  by_cases s s2 first last d d2 old new copy None disabled is start end making live refused untouched carried =
-      told_untouched s s2 d d2 old new copy start (λ _. making) refused live (untouched (inl refl))
-  by_cases s s2 first last d d2 old new copy (Some ino) (Some faults) is start end making live refused untouched carried =
-      let some : IsSome old.disabled = subst IsSome (sym is) refl in
-      told_untouched s s2 d d2 old new copy start (λ none. absurd (none_is_not old.disabled none some)) refused live (untouched (inr some))
-  by_cases s s2 first last d d2 old new copy (Some ino) None is start end making live refused untouched carried =
-      told_carried s s2 first last d d2 old new start end live
-      (carried s ino refl is making (kept_live opened h s d.told old.disabled old.journal.log old.journal.homes is live))
+-- ---- a call and its answer
 
-  -- what lives on through a call
-  pub live_answered : (s s2 : State) → (after_all (beginning opened) h).state ≡ s → IsReply s call reply s2
-      → (d d2 : dev.State) (old new : Core) (copy : Reply) (made : Option ℕ) → IfSome d.told (λ t. length t.ops ≡ at) → IfSome d2.told (λ t. length t.ops ≡ later)
-      → IsMaking s s2 made → Told d (IsLive opened h old.disabled old.journal.log old.journal.homes s) → (IsSome old.disabled → is_refusal copy ≡ true)
-      → ((made ≡ None) ⊎ IsSome old.disabled → IsUntouched d d2 old new copy answer)
-      → ((x : State) (ino : ℕ) → made ≡ Some ino → old.disabled ≡ None → IsMade x s2 ino → Told d (IsKept old.journal.log old.journal.homes x) → IsCarried x s2 d d2 new answer)
-      → Told d2 (IsLive opened longer new.disabled new.journal.log new.journal.homes s2)
-  live_answered s s2 first is d d2 old new copy made start end making live refused untouched carried =
-      let last = ap (λ (w : World). w.state) (after_all-append (beginning opened) h (event.Do at 0 line call reply ∷ []))
-      ∙ ap (λ (x : State). state_after x 0 call reply) first ∙ sym is.state_is in
-      by_cases s s2 first last d d2 old new copy made old.disabled refl start end making live refused untouched carried
+module _ (laws : AllowedLaws) (opened : ℕ) (h : List Event) (at later place line upto : ℕ) (call : Call) (reply answer : Reply) (between : Option ℕ)
+    (order : at ≤ later) (inside : IsBetween between at later) (placed : All (IsPlaced (length h)) h) (came : (m : ℕ) → at ≤ m → come_by h m ≡ length h) where
+  abbrev first : Event
+  first = event.Do at 0 line call reply
+
+  abbrev last : Event
+  last = event.Ret later place answer
+
+  abbrev rest : List Event
+  rest = releases between upto ++ last ∷ []
+
+  abbrev pub longer : List Event
+  longer = ((h ++ first ∷ []) ++ releases between upto) ++ last ∷ []
+
+  behind : (h ++ first ∷ []) ++ rest ≡ longer
+  behind = sym (append_assoc (h ++ first ∷ []) (releases between upto) (last ∷ []))
+
+  whole : h ++ first ∷ rest ≡ longer
+  whole = sym (append_assoc h (first ∷ []) rest) ∙ behind
+
+  -- then the call was not answered yet, or it is refused
+  abbrev IsUnanswered : ℕ → Type 0
+  IsUnanswered m = (m < later) ⊎ (is_refusal answer ≡ true)
+
+  each : (P : Event → Type 0) (o : Option ℕ) → ((k : ℕ) → o ≡ Some k → P (event.Release k upto)) → P last → AllByRecursion P (releases o upto ++ last ∷ [])
+  each P None all end = (end, tt)
+  each P (Some k) all end = (all k refl, (end, tt))
+
+  quiet : (m : ℕ) → IsUnanswered m → AllByRecursion (IsQuiet m) rest
+  quiet m open' = each (IsQuiet m) between (λ k e. tt) open'
+
+  inside_at : (o : Option ℕ) (k : ℕ) → IsBetween o at later → o ≡ Some k → (at ≤ k) × (k ≤ later)
+  inside_at None k is e = absurd cc
+  inside_at (Some j) k is e = let same : j ≡ k = cc in (omega (arith, same, is.0), omega (arith, same, is.1))
+
+  came_by : (m : ℕ) → later ≤ m → AllByRecursion (λ e. at_of e ≤ m) rest
+  came_by m from = each (λ e. at_of e ≤ m) between (λ k e. let lt = inside_at between k inside e in omega (arith, lt.1, from)) from
+
+  pub early_answered : (m : ℕ) (image : ℕ → List ℕ) → IsUnanswered m → IsAllowed (beginning opened) h m image → IsAllowed (beginning opened) longer m image
+  early_answered m image open' is = stays laws opened h (first ∷ rest) longer m image placed whole (tt, quiet m open') is
+
+  placed_begun : All (IsPlaced (length (h ++ first ∷ []))) (h ++ first ∷ [])
+  placed_begun = laws.placed h (first ∷ []) placed (tt, tt)
+
+  come_begun : (m : ℕ) → at ≤ m → come_by (h ++ first ∷ []) m ≡ length (h ++ first ∷ [])
+  come_begun m from = laws.come h (first ∷ []) m (from, tt) ∙ omega (arith, came m from, length-append h (first ∷ []))
+
+  -- on the way from the one state to the other
+  pub way_answered : (s new : State) → (after_all (beginning opened) h).state ≡ s → (after_all (beginning opened) (h ++ first ∷ [])).state ≡ new
+      → (m : ℕ) (image : ℕ → List ℕ) → at ≤ m → IsUnanswered m → ReplaysAs image s.tree ⊎ ReplaysAs image new.tree → IsAllowed (beginning opened) longer m image
+  way_answered s new was is m image from open' (inl r) =
+      replays laws opened h (first ∷ rest) longer s m image placed whole (tt, quiet m open') (came m from) (ap (λ (x : State). x.tree) was) r
+  way_answered s new was is m image from open' (inr r) =
+      replays laws opened (h ++ first ∷ []) rest longer new m image placed_begun behind (quiet m open') (come_begun m from) (ap (λ (x : State). x.tree) is) r
+
+  pub placed_answered : place ≡ length h → All (IsPlaced (length longer)) longer
+  placed_answered at_end =
+      let long : length (h ++ first ∷ rest) ≡ length h + length (first ∷ rest) = length-append h (first ∷ rest) in
+      subst (λ (es : List Event). All (IsPlaced (length es)) es) whole
+      (laws.placed h (first ∷ rest) placed (tt, each (IsPlaced (length (h ++ first ∷ rest))) between (λ k e. tt) (omega (arith, at_end, long))))
+
+  pub come_answered : (m : ℕ) → later ≤ m → come_by longer m ≡ length longer
+  come_answered m from = subst (λ (es : List Event). come_by es m ≡ length es) whole
+      (laws.come h (first ∷ rest) m (omega (arith, order, from), came_by m from) ∙ omega (arith, came m (omega (arith, order, from)), length-append h (first ∷ rest)))
+
+-- ---- blocks that wait are released, between two calls
+
+module _ (laws : AllowedLaws) (opened : ℕ) (h : List Event) (s : State) (start at upto : ℕ) (low : start ≤ at) (state_is : (after_all (beginning opened) h).state ≡ s)
+    (placed : All (IsPlaced (length h)) h) (came : (m : ℕ) → start ≤ m → come_by h m ≡ length h) where
+  pub early_released : (m : ℕ) (image : ℕ → List ℕ) → IsAllowed (beginning opened) h m image → IsAllowed (beginning opened) (h ++ event.Release at upto ∷ []) m image
+  early_released m image is = laws.later (beginning opened) h (event.Release at upto ∷ []) m image placed (tt, tt) is
+
+  pub way_released : (m : ℕ) (image : ℕ → List ℕ) → start ≤ m → ReplaysAs image s.tree → IsAllowed (beginning opened) (h ++ event.Release at upto ∷ []) m image
+  way_released m image from is =
+      laws.front (beginning opened) h (event.Release at upto ∷ []) m image s.tree placed (tt, tt) (omega (arith, came m from)) (ap (λ (x : State). x.tree) (sym state_is)) is
+
+  pub placed_released : All (IsPlaced (length (h ++ event.Release at upto ∷ []))) (h ++ event.Release at upto ∷ [])
+  placed_released = laws.placed h (event.Release at upto ∷ []) placed (tt, tt)
+
+  pub come_released : (m : ℕ) → at ≤ m → come_by (h ++ event.Release at upto ∷ []) m ≡ length (h ++ event.Release at upto ∷ [])
+  come_released m from = laws.come h (event.Release at upto ∷ []) m (from, tt) ∙ omega (arith, came m (omega (arith, low, from)), length-append h (event.Release at upto ∷ []))
 
 -- ---- the end of the history
 
 module _ (laws : AllowedLaws) (opened : ℕ) (h : List Event) (s : State) (start : ℕ) (state_is : (after_all (beginning opened) h).state ≡ s)
     (placed : All (IsPlaced (length h)) h) (came : (m : ℕ) → start ≤ m → come_by h m ≡ length h) where
   -- an image that replays as the last tree
-  at_end : (m : ℕ) (image : ℕ → List ℕ) → start ≤ m → ReplaysAs image s.tree → IsAllowed (beginning opened) h m image
-  at_end m image from replays = subst (λ (es : List Event). IsAllowed (beginning opened) es m image) (append-nil h)
-      (laws.front (beginning opened) h [] m image s.tree placed tt (omega (arith, came m from)) (ap (λ (x : State). x.tree) (sym state_is)) replays)
+  pub at_end : (m : ℕ) (image : ℕ → List ℕ) → start ≤ m → ReplaysAs image s.tree → IsAllowed (beginning opened) h m image
+  at_end m image from is = replays laws opened h [] h s m image placed (append-nil h) tt (came m from) (ap (λ (x : State). x.tree) state_is) is
 
   always_failed : (t : Tape) (ops : List Operation) → length t.ops ≡ start → Past (opened + 70) (IsAllowed (beginning opened) h) t
       → Always (length t.ops) (λ _ image. ReplaysAs image s.tree) (did_all ops t) → Always (opened + 70) (IsAllowed (beginning opened) h) (did_all ops t)
@@ -200,7 +205,7 @@ module _ (laws : AllowedLaws) (opened : ℕ) (h : List Event) (s : State) (start
     | inr on ↦ at_end m image (omega (arith, begins, on)) (always m on le image is)
   ]
 
-  pub told_failed : (o o2 : Option Tape) (ops : List Operation) (disabled : Option ℕ) (log : LogView) (homes : List (Option (List ℕ))) → IfSome o (λ t. length t.ops ≡ start)
+  pub told_failed : (o o2 : Option Tape) (ops : List Operation) (disabled : Option ℕ) (log : LogView) (homes : List AfterImage) → IfSome o (λ t. length t.ops ≡ start)
       → IfSome o (IsLive opened h disabled log homes s) → o2 ≡ option_map (did_all ops) o → IfSome o (λ t. Always (length t.ops) (λ _ image. ReplaysAs image s.tree) (did_all ops t))
       → IfSome o2 (Always (opened + 70) (IsAllowed (beginning opened) h))
   told_failed None o2 ops disabled log homes begins live told always = subst (λ (x : Option Tape). IfSome x (Always (opened + 70) (IsAllowed (beginning opened) h))) (sym told) tt
@@ -208,7 +213,7 @@ module _ (laws : AllowedLaws) (opened : ℕ) (h : List Event) (s : State) (start
       (always_failed t ops begins live.past always)
 
   -- nothing is done where a write has failed before
-  pub told_stopped : (o : Option Tape) (disabled : Option ℕ) (log : LogView) (homes : List (Option (List ℕ))) → IsSome disabled → IfSome o (IsLive opened h disabled log homes s)
+  pub told_stopped : (o : Option Tape) (disabled : Option ℕ) (log : LogView) (homes : List AfterImage) → IsSome disabled → IfSome o (IsLive opened h disabled log homes s)
       → IfSome o (Always (opened + 70) (IsAllowed (beginning opened) h))
   told_stopped None disabled log homes some live = tt
   told_stopped (Some t) disabled log homes some live = always_now (opened + 70) (IsAllowed (beginning opened) h) t live.past (live.stopped some)
@@ -218,11 +223,10 @@ module _ (laws : AllowedLaws) (opened : ℕ) (h : List Event) (s : State) (start
 
   -- the unmounting is durable
   at_unmounted : (at m : ℕ) (image : ℕ → List ℕ) → start ≤ at → at ≤ m → ReplaysAs image s.tree → IsAllowed (beginning opened) (h ++ event.Unmounted at ∷ []) m image
-  at_unmounted at m image order from replays =
+  at_unmounted at m image order from is =
       let longer = h ++ event.Unmounted at ∷ [] in
       let come : come_by longer m ≡ length longer = laws.come h (event.Unmounted at ∷ []) m (from, tt) ∙ omega (arith, came m (omega (arith, order, from)), length-append h (event.Unmounted at ∷ [])) in
-      subst (λ (es : List Event). IsAllowed (beginning opened) es m image) (append-nil longer)
-      (laws.front (beginning opened) longer [] m image s.tree (laws.placed h (event.Unmounted at ∷ []) placed (tt, tt)) tt (omega (arith, come)) (ap (λ (x : State). x.tree) (sym (state_unmounted at))) replays)
+      replays laws opened longer [] longer s m image (laws.placed h (event.Unmounted at ∷ []) placed (tt, tt)) (append-nil longer) tt come (ap (λ (x : State). x.tree) (state_unmounted at)) is
 
   always_unmounted : (at : ℕ) (t : Tape) (ops : List Operation) → length t.ops ≡ start → length (did_all ops t).ops ≡ at → Past (opened + 70) (IsAllowed (beginning opened) h) t
       → Always (length t.ops) (λ _ image. ReplaysAs image s.tree) (did_all ops t) → Always (opened + 70) (IsAllowed (beginning opened) (h ++ event.Unmounted at ∷ [])) (did_all ops t)
@@ -236,7 +240,7 @@ module _ (laws : AllowedLaws) (opened : ℕ) (h : List Event) (s : State) (start
     ]
   ]
 
-  pub told_unmounted : (at : ℕ) (o o2 : Option Tape) (ops : List Operation) (disabled : Option ℕ) (log : LogView) (homes : List (Option (List ℕ))) → IfSome o (λ t. length t.ops ≡ start)
+  pub told_unmounted : (at : ℕ) (o o2 : Option Tape) (ops : List Operation) (disabled : Option ℕ) (log : LogView) (homes : List AfterImage) → IfSome o (λ t. length t.ops ≡ start)
       → IfSome o2 (λ t. length t.ops ≡ at) → IfSome o (IsLive opened h disabled log homes s) → o2 ≡ option_map (did_all ops) o
       → IfSome o (λ t. Always (length t.ops) (λ _ image. ReplaysAs image s.tree) (did_all ops t))
       → IfSome o2 (Always (opened + 70) (IsAllowed (beginning opened) (h ++ event.Unmounted at ∷ [])))
@@ -249,7 +253,7 @@ module _ (laws : AllowedLaws) (opened : ℕ) (h : List Event) (s : State) (start
 -- ---- the start of the history
 
 -- nothing is claimed before the end of the format
-pub live_formatted : (opened : ℕ) (h : List Event) (s : State) (o : Option Tape) (disabled : Option ℕ) (log : LogView) (homes : List (Option (List ℕ))) → disabled ≡ None
+pub live_formatted : (opened : ℕ) (h : List Event) (s : State) (o : Option Tape) (disabled : Option ℕ) (log : LogView) (homes : List AfterImage) → disabled ≡ None
     → IfSome o (λ t. length t.ops ≡ opened + 70) → IfSome o (IsKept log homes s) → IfSome o (IsLive opened h disabled log homes s)
 live_formatted opened h s None disabled log homes none formatted kept = tt
 live_formatted opened h s (Some t) disabled log homes none formatted kept = record {

@@ -1,5 +1,5 @@
 -- The faults stay in order behind one more call.
-use Rattle.std.proofs.Common.{◌≡◌, ℕ, List, [], ◌∷◌, ◌++◌, Option, Some, None, refl, sym, ◌∙◌, ap, subst, inl, inr, append_assoc}
+use Rattle.std.proofs.Common.{◌≡◌, ℕ, List, [], ◌∷◌, ◌++◌, Option, Some, None, refl, sym, ◌∙◌, ap, subst, inl, inr, append_assoc, append-nil}
 use Rattle.std.proofs.lemmas.List.Elements.{All-push, All-nil}
 use Rattle.std.specs.Prelude.{All, IsSome}
 use Rattle.vx_base.specs.declared.call.Call.{Call}
@@ -9,65 +9,138 @@ use Rattle.vx_base.specs.declared.refusal.Refusal.TheVariants as no
 use Rattle.vx_base.specs.declared.reply.Reply.{Reply}
 use Rattle.vx_base.specs.declared.reply.Reply.TheVariants as say
 use Rattle.vx_dev.specs.Tape as dev
-use Rattle.vx_run.specs.Faults.{IsFaultless, TellsNoFault, TellsDisabled, FitsMount, FitsDevice, StopsAt, AreInOrder, EndInOrder}
+use Rattle.vx_run.specs.Cores.{releases}
+use Rattle.vx_run.specs.Faults.{IsFaultless, TellsNoFault, TellsDisabled, FitsMount, FitsDevice, after_reply, before_reply, StopsAt, AreInOrder, ReplyInOrder, EndInOrder}
+
+-- blocks that waited were released
+pub fine_released : (h : List Event) (between : Option ℕ) (upto : ℕ) → All TellsNoFault h → All TellsNoFault (h ++ releases between upto)
+fine_released h None upto all = subst (λ (es : List Event). All TellsNoFault es) (sym (append-nil h)) all
+fine_released h (Some at) upto all = All-push TellsNoFault h (event.Release at upto) all tt
+
+-- a reply in memory
+pub reply_in_order : (o : Option ℕ) (d : dev.State) (h : List Event) (reply : Reply) → FitsMount o reply → AreInOrder o d h → ReplyInOrder o d h reply
+reply_in_order None d h reply fits order = (order, fits)
+reply_in_order (Some faults) d h reply fits order = (order.0, inl (order.1, fits))
 
 -- a call and its answer behind a history
-abbrev pub with_call : List Event → (at later line place : ℕ) → Call → (reply answer : Reply) → List Event
-with_call h at later line place call reply answer = (h ++ event.Do at 0 line call reply ∷ []) ++ event.Ret later place answer ∷ []
+abbrev pub with_call : List Event → (at later line place upto : ℕ) → (between : Option ℕ) → Call → (reply answer : Reply) → List Event
+with_call h at later line place upto between call reply answer = ((h ++ event.Do at 0 line call reply ∷ []) ++ releases between upto) ++ event.Ret later place answer ∷ []
 
 module _ (h : List Event) (at later line place : ℕ) (call : Call) (reply answer : Reply) where
-  none_told : All TellsNoFault h → IsFaultless reply → IsFaultless answer → All TellsNoFault (with_call h at later line place call reply answer)
-  none_told all first second =
-      All-push TellsNoFault (h ++ event.Do at 0 line call reply ∷ []) (event.Ret later place answer) (All-push TellsNoFault h (event.Do at 0 line call reply) all first) second
+  abbrev first : Event
+  first = event.Do at 0 line call reply
 
-  stopped_now : (faults : ℕ) → All TellsNoFault h → IsFaultless reply → answer ≡ say.Refused no.WriteFault → StopsAt faults later (with_call h at later line place call reply answer)
-  stopped_now faults all first fault = record {
-    before = h ++ event.Do at 0 line call reply ∷ [];
-    place = place;
-    after = [];
-    is = ap (λ (r : Reply). (h ++ event.Do at 0 line call reply ∷ []) ++ event.Ret later place r ∷ []) fault;
-    fine = All-push TellsNoFault h (event.Do at 0 line call reply) all first;
-    disabled = All-nil (TellsDisabled faults later);
-  }
+  abbrev last : Event
+  last = event.Ret later place answer
 
-  stopped_before : (faults ops : ℕ) → StopsAt faults ops h → at ≡ ops → later ≡ ops → reply ≡ say.Refused (no.Disabled faults) → answer ≡ say.Refused (no.Disabled faults)
-      → StopsAt faults ops (with_call h at later line place call reply answer)
-  stopped_before faults ops stops same same2 first second =
-      let e : Event = event.Ret ops stops.place (say.Refused no.WriteFault) in
-      let e1 : Event = event.Do at 0 line call reply in
-      let e2 : Event = event.Ret later place answer in
+  module _ (upto : ℕ) (between : Option ℕ) (all : All TellsNoFault h) (fine : IsFaultless reply) where
+    before_answer : All TellsNoFault ((h ++ first ∷ []) ++ releases between upto)
+    before_answer = fine_released (h ++ first ∷ []) between upto (All-push TellsNoFault h first all fine)
+
+    none_told : IsFaultless answer → All TellsNoFault (with_call h at later line place upto between call reply answer)
+    none_told second = All-push TellsNoFault ((h ++ first ∷ []) ++ releases between upto) last before_answer second
+
+    stopped_now : (faults : ℕ) → answer ≡ say.Refused no.WriteFault → StopsAt faults later (with_call h at later line place upto between call reply answer)
+    stopped_now faults fault =
+        let front = (h ++ first ∷ []) ++ releases between upto in
+        let stop = event.Ret later place (say.Refused no.WriteFault) ∷ [] in
+        record {
+          before = front;
+          stop = stop;
+          after = [];
+          is = ap (λ (r : Reply). front ++ event.Ret later place r ∷ []) fault ∙ sym (append-nil (front ++ stop));
+          fine = before_answer;
+          is_stop = after_reply place refl;
+          disabled = All-nil (TellsDisabled faults later);
+        }
+
+  -- nothing was released
+  abbrev stopped_call : List Event
+  stopped_call = (h ++ first ∷ []) ++ last ∷ []
+
+  -- the mount had stopped before the call
+  stopped_before : (faults ops : ℕ) → StopsAt faults ops h → at ≡ ops → later ≡ ops → reply ≡ say.Refused (no.Disabled faults) → answer ≡ say.Refused (no.Disabled faults) → StopsAt faults ops stopped_call
+  stopped_before faults ops stops same same2 first_is second_is =
       record {
         before = stops.before;
-        place = stops.place;
-        after = (stops.after ++ e1 ∷ []) ++ e2 ∷ [];
-        is = ap (λ (es : List Event). (es ++ e1 ∷ []) ++ e2 ∷ []) stops.is
-            ∙ ap (λ (es : List Event). es ++ e2 ∷ []) (append_assoc stops.before (e ∷ stops.after) (e1 ∷ []))
-            ∙ append_assoc stops.before (e ∷ stops.after ++ e1 ∷ []) (e2 ∷ []);
+        stop = stops.stop;
+        after = (stops.after ++ first ∷ []) ++ last ∷ [];
+        is = ap (λ (es : List Event). (es ++ first ∷ []) ++ last ∷ []) stops.is
+            ∙ ap (λ (es : List Event). es ++ last ∷ []) (append_assoc (stops.before ++ stops.stop) stops.after (first ∷ []))
+            ∙ append_assoc (stops.before ++ stops.stop) (stops.after ++ first ∷ []) (last ∷ []);
         fine = stops.fine;
-        disabled = All-push (TellsDisabled faults ops) (stops.after ++ e1 ∷ []) e2 (All-push (TellsDisabled faults ops) stops.after e1 stops.disabled (same, first)) (same2, second);
+        is_stop = stops.is_stop;
+        disabled = All-push (TellsDisabled faults ops) (stops.after ++ first ∷ []) last (All-push (TellsDisabled faults ops) stops.after first stops.disabled (same, first_is)) (same2, second_is);
       }
 
-  pub in_order : (old now : Option ℕ) (d d2 : dev.State) → FitsMount old reply → FitsDevice old now d2 reply answer → at ≡ d.count → later ≡ d2.count → (IsSome old → d2 ≡ d) → AreInOrder old d h
-      → AreInOrder now d2 (with_call h at later line place call reply answer)
-  in_order None None d d2 first second same same2 still order = none_told order first (subst IsFaultless (sym second) first)
-  in_order None (Some faults) d d2 first second same same2 still order = (
-    second.1,
-    subst (λ (ops : ℕ). StopsAt faults ops (with_call h at later line place call reply answer)) same2 (stopped_now faults order first second.0),
+  -- it stops before the call is done
+  stopped_here : (faults ops : ℕ) → All TellsNoFault h → at ≡ ops → later ≡ ops → reply ≡ say.Refused no.WriteFault → answer ≡ say.Refused no.WriteFault → StopsAt faults ops stopped_call
+  stopped_here faults ops all same same2 first_is second_is =
+      let e1 : Event = event.Do ops 0 line call (say.Refused no.WriteFault) in
+      let e2 : Event = event.Ret ops place (say.Refused no.WriteFault) in
+      record {
+        before = h;
+        stop = e1 ∷ e2 ∷ [];
+        after = [];
+        is = ap (λ (k : ℕ). (h ++ event.Do k 0 line call reply ∷ []) ++ last ∷ []) same ∙ ap (λ (r : Reply). (h ++ event.Do ops 0 line call r ∷ []) ++ last ∷ []) first_is
+            ∙ ap (λ (k : ℕ). (h ++ e1 ∷ []) ++ event.Ret k place answer ∷ []) same2 ∙ ap (λ (r : Reply). (h ++ e1 ∷ []) ++ event.Ret ops place r ∷ []) second_is
+            ∙ append_assoc h (e1 ∷ []) (e2 ∷ []) ∙ sym (append-nil (h ++ e1 ∷ e2 ∷ []));
+        fine = all;
+        is_stop = before_reply line place call refl;
+        disabled = All-nil (TellsDisabled faults ops);
+      }
+
+  -- no write had failed before
+  pub order_enabled : (upto : ℕ) (between now : Option ℕ) (d d2 : dev.State) → FitsDevice None now d2 reply answer → later ≡ d2.count → ReplyInOrder None d h reply
+      → AreInOrder now d2 (with_call h at later line place upto between call reply answer)
+  order_enabled upto between None d d2 fits same2 order = none_told upto between order.0 order.1 (subst IsFaultless (sym fits) order.1)
+  order_enabled upto between (Some faults) d d2 fits same2 order = (
+    fits.1,
+    subst (λ (ops : ℕ). StopsAt faults ops (with_call h at later line place upto between call reply answer)) same2 (stopped_now upto between order.0 order.1 faults fits.0),
   )
-  in_order (Some faults) now d d2 first second same same2 still order =
-      let unmoved : d2 ≡ d = still refl in
-      let counts : d2.count ≡ d.count = ap (λ (x : dev.State). x.count) unmoved in
-      let stops = stopped_before faults d.count order.1 same (same2 ∙ counts) first (second.1 ∙ first) in
-      subst (λ (o : Option ℕ). AreInOrder o d2 (with_call h at later line place call reply answer)) (sym second.0) (
-        order.0 ∙ sym (ap (λ (x : dev.State). x.write_faults) unmoved),
-        subst (λ (ops : ℕ). StopsAt faults ops (with_call h at later line place call reply answer)) (sym counts) stops,
+
+  -- the mount was disabled: nothing is done
+  pub order_disabled : (faults : ℕ) (now : Option ℕ) (d d2 : dev.State) → FitsDevice (Some faults) now d2 reply answer → d2 ≡ d → at ≡ d.count → later ≡ d2.count → ReplyInOrder (Some faults) d h reply
+      → AreInOrder now d2 stopped_call
+  order_disabled faults now d d2 fits still same same2 order =
+      let counts : d2.count ≡ d.count = ap (λ (x : dev.State). x.count) still in
+      let stops : StopsAt faults d.count stopped_call = elim order.1 [
+        | inl before ↦ stopped_before faults d.count before.0 same (same2 ∙ counts) before.1 (fits.1 ∙ before.1)
+        | inr here ↦ stopped_here faults d.count here.0 same (same2 ∙ counts) here.1 (fits.1 ∙ here.1)
+      ] in
+      subst (λ (o : Option ℕ). AreInOrder o d2 stopped_call) (sym fits.0) (
+        order.0 ∙ sym (ap (λ (x : dev.State). x.write_faults) still),
+        subst (λ (ops : ℕ). StopsAt faults ops stopped_call) (sym counts) stops,
       )
+
+-- a call is noted, made durable, and answered
+pub order_noted : (h begun after new : List Event) (at later line place : ℕ) (call : Call) (reply answer : Reply) → begun ≡ h ++ event.Do at 0 line call reply ∷ [] → new ≡ after ++ event.Ret later place answer ∷ []
+    → (o now : Option ℕ) (d d2 : dev.State) (between : Option ℕ) (upto : ℕ) → after ≡ begun ++ releases between upto → FitsDevice o now d2 reply answer → at ≡ d.count → later ≡ d2.count
+    → (IsSome o → (d2 ≡ d) × (after ≡ begun)) → ReplyInOrder o d h reply → AreInOrder now d2 new
+order_noted h begun after new at later line place call reply answer first last None now d d2 between upto more fits same same2 still order =
+    let items : new ≡ with_call h at later line place upto between call reply answer =
+    last ∙ ap (λ (es : List Event). es ++ event.Ret later place answer ∷ []) (more ∙ ap (λ (es : List Event). es ++ releases between upto) first) in
+    subst (λ (es : List Event). AreInOrder now d2 es) (sym items) (order_enabled h at later line place call reply answer upto between now d d2 fits same2 order)
+order_noted h begun after new at later line place call reply answer first last (Some faults) now d d2 between upto more fits same same2 still order =
+    let unmoved : (d2 ≡ d) × (after ≡ begun) = still refl in
+    let items : new ≡ (h ++ event.Do at 0 line call reply ∷ []) ++ event.Ret later place answer ∷ [] = last ∙ ap (λ (es : List Event). es ++ event.Ret later place answer ∷ []) (unmoved.1 ∙ first) in
+    subst (λ (es : List Event). AreInOrder now d2 es) (sym items) (order_disabled h at later line place call reply answer faults now d d2 fits unmoved.0 same same2 order)
 
 -- a mount that has not begun
 pub unfaulted : (o : Option ℕ) (d : dev.State) (h : List Event) → o ≡ None → h ≡ [] → AreInOrder o d h
 unfaulted o d h none empty =
     let all : All TellsNoFault h = subst (λ (es : List Event). All TellsNoFault es) (sym empty) (All-nil TellsNoFault) in
     subst (λ (x : Option ℕ). AreInOrder x d h) (sym none) all
+
+-- the log was emptied
+pub order_released : (o now : Option ℕ) (d d2 : dev.State) (h new : List Event) (at upto : ℕ) → o ≡ None → now ≡ None → new ≡ h ++ event.Release at upto ∷ [] → AreInOrder o d h → AreInOrder now d2 new
+order_released o now d d2 h new at upto none still are order =
+    let all : All TellsNoFault h = subst (λ (x : Option ℕ). AreInOrder x d h) none order in
+    subst (λ (x : Option ℕ). AreInOrder x d2 new) (sym still) (subst (λ (es : List Event). All TellsNoFault es) (sym are) (All-push TellsNoFault h (event.Release at upto) all tt))
+
+-- its emptying failed, in a call that is not done yet
+pub order_stopped : (o : Option ℕ) (faults : ℕ) (d d2 : dev.State) (h : List Event) → o ≡ None → faults ≡ d2.write_faults → AreInOrder o d h → ReplyInOrder (Some faults) d2 h (say.Refused no.WriteFault)
+order_stopped o faults d d2 h none told order = (told, inr (subst (λ (x : Option ℕ). AreInOrder x d h) none order, refl))
 
 -- a run that ends where its last call left it
 pub end_here : (o : Option ℕ) (d : dev.State) (h : List Event) → AreInOrder o d h → EndInOrder o d h

@@ -12,14 +12,14 @@ use Rattle.vx_base.specs.declared.event.Event.TheVariants as event
 use Rattle.vx_base.proofs.Maps.{at_key, taken_back}
 use Rattle.vx_model.specs.State.{State}
 use Rattle.vx_model.specs.Step.{step}
-use Rattle.vx_model.specs.Legal.{World, Waiting, after, after_all, Legal, Allowed, IfThere, is_fault, state_after, RetAllowed}
+use Rattle.vx_model.specs.Legal.{World, Waiting, after, after_all, Legal, Allowed, IfThere, is_fault, is_no_space, state_after, RetAllowed, with_released}
 use Rattle.vx_model.proofs.Runs.{after_all-append, Legal-push}
 use Rattle.vx_dev.specs.Tape as dev
-use Rattle.vx_run.specs.Devices.{Onward}
-use Rattle.vx_run.specs.Cores.{IsRun, IsReply, IsEnded, is_unmounted, IsOfLines, asked_of, numbered, beginning}
+use Rattle.vx_kernel.specs.Devices.{Onward}
+use Rattle.vx_run.specs.Cores.{IsRun, IsReply, IsEnded, IsBetween, is_unmounted, IsOfLines, asked_of, numbered, beginning, releases, released_by}
 
-abbrev Waits : Type 0
-Waits = map.FinMap nat_cmp Waiting
+abbrev Calls : Type 0
+Calls = map.FinMap nat_cmp Waiting
 
 nothing : {A : Type 0} (es : List A) → length es ≡ 0 → es ≡ []
 nothing [] e = refl
@@ -31,96 +31,174 @@ of_line_0 v = nat_eq v.session 0 && nat_lt 0 v.line
 no_entries : map.entries (map.empty {X = Waiting} {R = nat_cmp}) ≡ []
 no_entries = nothing (map.entries (map.empty {X = Waiting} {R = nat_cmp})) (sym (map.len-entries (map.empty {X = Waiting} {R = nat_cmp})) ∙ map.len-empty nat_cmp Waiting)
 
-no_waiting : (m : Waits) → m ≡ map.empty → not (list_any (λ (v : Waiting). nat_eq v.session 0 && nat_lt 0 v.line) (map.values m)) ≡ true
-no_waiting m none = ap (λ (x : Waits). not (list_any (λ (v : Waiting). nat_eq v.session 0 && nat_lt 0 v.line) (map.values x))) none
+no_waiting : (m : Calls) → m ≡ map.empty → not (list_any (λ (v : Waiting). nat_eq v.session 0 && nat_lt 0 v.line) (map.values m)) ≡ true
+no_waiting m none = ap (λ (x : Calls). not (list_any (λ (v : Waiting). nat_eq v.session 0 && nat_lt 0 v.line) (map.values x))) none
     ∙ ap (λ (es : List (ℕ × Waiting)). not (list_any of_line_0 (mapped (λ e. e.1) es))) no_entries
 
-none_at : (m : Waits) (k : ℕ) → m ≡ map.empty → map.get m k ≡ None
-none_at m k none = ap (λ (x : Waits). map.get x k) none ∙ map.get-empty nat_cmp k
+none_at : (m : Calls) (k : ℕ) → m ≡ map.empty → map.get m k ≡ None
+none_at m k none = ap (λ (x : Calls). map.get x k) none ∙ map.get-empty nat_cmp k
 
-abbrev begun : ℕ → ℕ → Call → Reply → Event
+abbrev pub begun : ℕ → ℕ → Call → Reply → Event
 begun at line call reply = event.Do at 0 line call reply
 
-module _ (w : World) (s s2 : State) (call : Call) (line at later place : ℕ) (reply answer : Reply)
-    (state_is : w.state ≡ s) (idle : w.waiting ≡ map.empty) (mounted : w.unmounted ≡ false) (low : w.at ≤ at) (order : at ≤ later) (next : w.next ≡ place)
-    (is : IsReply s call reply s2) (fits : (answer ≡ reply) ⊎ (is_fault answer ≡ true)) where
-  do_allowed : Allowed w (begun at line call reply)
-  do_allowed = record {
-    later = low;
-    mounted = mounted;
-    comes = record {
-      idle = no_waiting w.waiting idle;
-      reply_is = subst (λ (x : State). IfThere (step x 0 call) (λ done. (reply ≡ done.reply) ⊎ (is_fault reply ≡ true))) (sym state_is) is.reply_is;
-    };
-  }
+abbrev called : ℕ → Reply → Waiting
+called line reply = record { session = 0; line = line; reply = reply }
 
-  waits : map.get (after w (begun at line call reply)).waiting place ≡ Some (record { session = 0; line = line; reply = reply })
-  waits = ap (map.get (after w (begun at line call reply)).waiting) (sym next) ∙ at_key w.waiting w.next (record { session = 0; line = line; reply = reply })
+-- a call has been done, and not been answered
+pub record IsOpen (opened : ℕ) (history : List Event) (state : State) (place line : ℕ) (reply : Reply) (count : ℕ) : Type 0 where
+  pub legal : Legal (beginning opened) history
+  pub state_is : (after_all (beginning opened) history).state ≡ state
+  pub waiting : (after_all (beginning opened) history).waiting ≡ map.insert map.empty place (called line reply)
+  pub next : (after_all (beginning opened) history).next ≡ length history
+  pub at : (after_all (beginning opened) history).at ≤ count
+  pub mounted : (after_all (beginning opened) history).unmounted ≡ false
 
-  ret_allowed : Allowed (after w (begun at line call reply)) (event.Ret later place answer)
-  ret_allowed = record {
-    later = order;
-    mounted = mounted;
-    comes = subst (λ (o : Option Waiting). RetAllowed o answer) (sym waits) fits;
-  }
+one_more : (es : List Event) (e : Event) → length (es ++ e ∷ []) ≡ length es + 1
+one_more es e = length-append es (e ∷ [])
 
-  idle2 : (after (after w (begun at line call reply)) (event.Ret later place answer)).waiting ≡ map.empty
-  idle2 = ap (λ (k : ℕ). map.remove (map.insert w.waiting w.next (record { session = 0; line = line; reply = reply })) k) (sym next)
-      ∙ taken_back w.waiting w.next (record { session = 0; line = line; reply = reply }) (none_at w.waiting w.next idle) ∙ idle
-
-  state2 : (after (after w (begun at line call reply)) (event.Ret later place answer)).state ≡ s2
-  state2 = ap (λ (x : State). state_after x 0 call reply) state_is ∙ sym is.state_is
-
--- a call and its answer lead from one rest of the mount to the next
-pub run_answered : (opened : ℕ) (h new : List Event) (s s2 : State) (call : Call) (line at later count count2 : ℕ) (reply answer : Reply)
-    → IsRun opened h s count → count ≤ at → at ≤ later → later ≤ count2 → IsReply s call reply s2 → (answer ≡ reply) ⊎ (is_fault answer ≡ true)
-    → new ≡ (h ++ begun at line call reply ∷ []) ++ event.Ret later (length h) answer ∷ [] → IsRun opened new s2 count2
-run_answered opened h new s s2 call line at later count count2 reply answer run low order high is fits are =
+pub open_done : (opened : ℕ) (h : List Event) (s new : State) (call : Call) (line at count : ℕ) (reply : Reply) → IsRun opened h s count → count ≤ at → IsReply s (length h) call reply new
+    → (is_no_space reply ≡ true → (b : ℕ) → s.layout.pending b ≡ None) → IsOpen opened (h ++ begun at line call reply ∷ []) new (length h) line reply at
+open_done opened h s new call line at count reply run low is released =
     let w = after_all (beginning opened) h in
-    let low2 : w.at ≤ at = omega (arith, run.at, low) in
-    let e1 = begun at line call reply in
-    let e2 : Event = event.Ret later (length h) answer in
-    let first : after_all (beginning opened) (h ++ e1 ∷ []) ≡ after w e1 = after_all-append (beginning opened) h (e1 ∷ []) in
-    let second : after_all (beginning opened) ((h ++ e1 ∷ []) ++ e2 ∷ []) ≡ after (after w e1) e2 =
-    after_all-append (beginning opened) (h ++ e1 ∷ []) (e2 ∷ []) ∙ ap (λ (x : World). after x e2) first in
-    let legal1 = Legal-push (beginning opened) h e1 run.legal (do_allowed w s s2 call line at later (length h) reply answer run.state_is run.idle run.mounted low2 order run.next is fits) in
-    let legal2 = Legal-push (beginning opened) (h ++ e1 ∷ []) e2 legal1
-    (subst (λ (x : World). Allowed x e2) (sym first) (ret_allowed w s s2 call line at later (length h) reply answer run.state_is run.idle run.mounted low2 order run.next is fits)) in
-    let P : World → Type 0 = λ x. (x.state ≡ s2) × (x.waiting ≡ map.empty) × (x.next ≡ length h + 1 + 1) × (x.at ≤ count2) × (x.unmounted ≡ false) in
-    let facts = subst P (sym second) (
-      state2 w s s2 call line at later (length h) reply answer run.state_is run.idle run.mounted low2 order run.next is fits,
-      idle2 w s s2 call line at later (length h) reply answer run.state_is run.idle run.mounted low2 order run.next is fits,
-      omega (arith, run.next),
-      high,
-      run.mounted,
-    ) in
-    let Q : List Event → Type 0 = λ es. IsRun opened es s2 count2 in
-    subst Q (sym are) (record {
-      legal = legal2;
-      state_is = facts.0;
-      idle = facts.1;
-      next = facts.2 ∙ omega (arith, length-append (h ++ e1 ∷ []) (e2 ∷ []), length-append h (e1 ∷ []));
-      at = facts.3;
-      mounted = facts.4;
-    })
+    let e = begun at line call reply in
+    let first : after_all (beginning opened) (h ++ e ∷ []) ≡ after w e = after_all-append (beginning opened) h (e ∷ []) in
+    let P : ℕ → State → Type 0 = λ n x. IfThere (step x n 0 call) (λ done. (reply ≡ done.reply) ⊎ (is_fault reply ≡ true)) in
+    let allowed : Allowed w e = record {
+      later = omega (arith, run.at, low);
+      mounted = run.mounted;
+      comes = record {
+        idle = no_waiting w.waiting run.idle;
+        reply_is = subst (λ (n : ℕ). P n w.state) (sym run.next) (subst (P (length h)) (sym run.state_is) is.reply_is);
+        all_released = λ short b. ap (λ (x : State). x.layout.pending b) run.state_is ∙ released short b;
+      };
+    } in
+    record {
+      legal = Legal-push (beginning opened) h e run.legal allowed;
+      state_is = ap (λ (x : World). x.state) first ∙ ap (λ (n : ℕ). state_after w.state n 0 call reply) run.next ∙ ap (λ (x : State). state_after x (length h) 0 call reply) run.state_is ∙ sym is.state_is;
+      waiting = ap (λ (x : World). x.waiting) first ∙ ap (λ (n : ℕ). map.insert w.waiting n (called line reply)) run.next ∙ ap (λ (m : Calls). map.insert m (length h) (called line reply)) run.idle;
+      next = ap (λ (x : World). x.next) first ∙ omega (arith, run.next, one_more h e);
+      at = omega (arith, ap (λ (x : World). x.at) first);
+      mounted = ap (λ (x : World). x.unmounted) first ∙ run.mounted;
+    }
+
+open_on : (opened : ℕ) (h : List Event) (s : State) (place line : ℕ) (reply : Reply) (count later : ℕ) → IsOpen opened h s place line reply count → count ≤ later → IsOpen opened h s place line reply later
+open_on opened h s place line reply count later run le =
+    record { legal = run.legal; state_is = run.state_is; waiting = run.waiting; next = run.next; at = omega (arith, run.at, le); mounted = run.mounted }
+
+open_freed : (opened : ℕ) (h : List Event) (s : State) (place line : ℕ) (reply : Reply) (at upto count later : ℕ) → IsOpen opened h s place line reply count → count ≤ at → at ≤ later
+    → IsOpen opened (h ++ event.Release at upto ∷ []) (with_released s upto) place line reply later
+open_freed opened h s place line reply at upto count later run low high =
+    let w = after_all (beginning opened) h in
+    let e : Event = event.Release at upto in
+    let first : after_all (beginning opened) (h ++ e ∷ []) ≡ after w e = after_all-append (beginning opened) h (e ∷ []) in
+    record {
+      legal = Legal-push (beginning opened) h e run.legal (record { later = omega (arith, run.at, low); mounted = run.mounted; comes = tt });
+      state_is = ap (λ (x : World). x.state) first ∙ ap (λ (x : State). with_released x upto) run.state_is;
+      waiting = ap (λ (x : World). x.waiting) first ∙ run.waiting;
+      next = ap (λ (x : World). x.next) first ∙ omega (arith, run.next, one_more h e);
+      at = omega (arith, high, ap (λ (x : World). x.at) first);
+      mounted = ap (λ (x : World). x.unmounted) first ∙ run.mounted;
+    }
+
+pub open_released : (opened : ℕ) (h : List Event) (s : State) (place line : ℕ) (reply : Reply) (between : Option ℕ) (upto count later : ℕ) → IsOpen opened h s place line reply count → count ≤ later
+    → IsBetween between count later → IsOpen opened (h ++ releases between upto) (released_by between upto s) place line reply later
+open_released opened h s place line reply None upto count later run le is =
+    subst (λ (es : List Event). IsOpen opened es s place line reply later) (sym (append-nil h)) (open_on opened h s place line reply count later run le)
+open_released opened h s place line reply (Some at) upto count later run le is = open_freed opened h s place line reply at upto count later run is.0 is.1
+
+-- the call is answered
+pub run_closed : (opened : ℕ) (h : List Event) (s : State) (place line : ℕ) (reply : Reply) (count later count2 : ℕ) (answer : Reply) → IsOpen opened h s place line reply count → count ≤ later → later ≤ count2
+    → (answer ≡ reply) ⊎ (is_fault answer ≡ true) → IsRun opened (h ++ event.Ret later place answer ∷ []) s count2
+run_closed opened h s place line reply count later count2 answer run low high fits =
+    let w = after_all (beginning opened) h in
+    let e : Event = event.Ret later place answer in
+    let first : after_all (beginning opened) (h ++ e ∷ []) ≡ after w e = after_all-append (beginning opened) h (e ∷ []) in
+    let none : map.get (map.empty {X = Waiting} {R = nat_cmp}) place ≡ None = none_at map.empty place refl in
+    let waits : map.get w.waiting place ≡ Some (called line reply) = ap (λ (m : Calls). map.get m place) run.waiting ∙ at_key map.empty place (called line reply) in
+    record {
+      legal = Legal-push (beginning opened) h e run.legal
+          (record { later = omega (arith, run.at, low); mounted = run.mounted; comes = subst (λ (o : Option Waiting). RetAllowed o answer) (sym waits) fits });
+      state_is = ap (λ (x : World). x.state) first ∙ run.state_is;
+      idle = ap (λ (x : World). x.waiting) first ∙ ap (λ (m : Calls). map.remove m place) run.waiting ∙ taken_back map.empty place (called line reply) none;
+      next = ap (λ (x : World). x.next) first ∙ omega (arith, run.next, one_more h e);
+      at = omega (arith, high, ap (λ (x : World). x.at) first);
+      mounted = ap (λ (x : World). x.unmounted) first ∙ run.mounted;
+    }
+
+-- blocks that waited are free, between two calls
+pub run_released : (opened : ℕ) (h : List Event) (s : State) (at upto count count2 : ℕ) → IsRun opened h s count → count ≤ at → at ≤ count2
+    → IsRun opened (h ++ event.Release at upto ∷ []) (with_released s upto) count2
+run_released opened h s at upto count count2 run low high =
+    let w = after_all (beginning opened) h in
+    let e : Event = event.Release at upto in
+    let first : after_all (beginning opened) (h ++ e ∷ []) ≡ after w e = after_all-append (beginning opened) h (e ∷ []) in
+    record {
+      legal = Legal-push (beginning opened) h e run.legal (record { later = omega (arith, run.at, low); mounted = run.mounted; comes = tt });
+      state_is = ap (λ (x : World). x.state) first ∙ ap (λ (x : State). with_released x upto) run.state_is;
+      idle = ap (λ (x : World). x.waiting) first ∙ run.idle;
+      next = ap (λ (x : World). x.next) first ∙ omega (arith, run.next, one_more h e);
+      at = omega (arith, high, ap (λ (x : World). x.at) first);
+      mounted = ap (λ (x : World). x.unmounted) first ∙ run.mounted;
+    }
+
+pub run_on : (opened : ℕ) (h : List Event) (s : State) (count count2 : ℕ) → IsRun opened h s count → count ≤ count2 → IsRun opened h s count2
+run_on opened h s count count2 run le = record { legal = run.legal; state_is = run.state_is; idle = run.idle; next = run.next; at = omega (arith, run.at, le); mounted = run.mounted }
+
+-- ---- the lines
 
 numbered-push : (n : ℕ) (calls : List Call) (call : Call) → numbered n (calls ++ call ∷ []) ≡ numbered n calls ++ (0, (n + length calls, call)) ∷ []
 numbered-push n [] call = ap (λ (k : ℕ). (0, (k, call)) ∷ []) (omega arith)
 numbered-push n (c ∷ calls) call = ap (λ (rest : List (ℕ × (ℕ × Call))). (0, (n, c)) ∷ rest) (numbered-push (n + 1) calls call ∙ ap (λ (k : ℕ). numbered (n + 1) calls ++ (0, (k, call)) ∷ []) (omega arith))
 
--- a line's call is one line more
-pub lines_answered : (h new : List Event) (calls : List Call) (call : Call) (line at later place : ℕ) (reply answer : Reply) → line ≡ length calls + 1 → IsOfLines h calls
-    → new ≡ (h ++ begun at line call reply ∷ []) ++ event.Ret later place answer ∷ [] → IsOfLines new (calls ++ call ∷ [])
-lines_answered h new calls call line at later place reply answer number before are =
-    let e1 = begun at line call reply in
-    let e2 : Event = event.Ret later place answer in
-    ap (filter_map asked_of) are ∙ filter_map-append asked_of (h ++ e1 ∷ []) (e2 ∷ []) ∙ append-nil (filter_map asked_of (h ++ e1 ∷ []))
-    ∙ filter_map-append asked_of h (e1 ∷ [])
-    ∙ ap (λ (front : List (ℕ × (ℕ × Call))). front ++ (0, (line, call)) ∷ []) before
-    ∙ ap (λ (k : ℕ). numbered 1 calls ++ (0, (k, call)) ∷ []) (number ∙ omega arith)
-    ∙ sym (numbered-push 1 calls call)
+-- the history of a call and its answer, where blocks that waited may have been released before the call and in it
+abbrev pub answered : (h : List Event) (earlier : Option ℕ) (at line : ℕ) → Call → Reply → (between : Option ℕ) (later place upto : ℕ) → Reply → List Event
+answered h earlier at line call reply between later place upto answer =
+    (((h ++ releases earlier (length h)) ++ begun at line call reply ∷ []) ++ releases between upto) ++ event.Ret later place answer ∷ []
 
--- the file system is left clean behind the last call
+no_lines : (o : Option ℕ) (upto : ℕ) → filter_map asked_of (releases o upto) ≡ []
+no_lines None upto = refl
+no_lines (Some at) upto = refl
+
+lines_same : (h : List Event) (o : Option ℕ) (upto : ℕ) → filter_map asked_of (h ++ releases o upto) ≡ filter_map asked_of h
+lines_same h o upto = filter_map-append asked_of h (releases o upto) ∙ ap (λ (rest : List (ℕ × (ℕ × Call))). filter_map asked_of h ++ rest) (no_lines o upto) ∙ append-nil (filter_map asked_of h)
+
+pub few_releases : (o : Option ℕ) (upto : ℕ) → length (releases o upto) ≤ 1
+few_releases None upto = omega arith
+few_releases (Some at) upto = omega arith
+
+module _ (h new : List Event) (earlier : Option ℕ) (at line : ℕ) (call : Call) (reply : Reply) (between : Option ℕ) (later place upto : ℕ) (answer : Reply)
+    (are : new ≡ answered h earlier at line call reply between later place upto answer) where
+  -- a line's call is one line more
+  pub lines_answered : (calls : List Call) → line ≡ length calls + 1 → IsOfLines h calls → IsOfLines new (calls ++ call ∷ [])
+  lines_answered calls number before =
+      let h1 = h ++ releases earlier (length h) in
+      let h2 = h1 ++ begun at line call reply ∷ [] in
+      let h3 = h2 ++ releases between upto in
+      ap (filter_map asked_of) are ∙ filter_map-append asked_of h3 (event.Ret later place answer ∷ []) ∙ append-nil (filter_map asked_of h3)
+      ∙ lines_same h2 between upto
+      ∙ filter_map-append asked_of h1 (begun at line call reply ∷ [])
+      ∙ ap (λ (front : List (ℕ × (ℕ × Call))). front ++ (0, (line, call)) ∷ []) (lines_same h earlier (length h) ∙ before)
+      ∙ ap (λ (k : ℕ). numbered 1 calls ++ (0, (k, call)) ∷ []) (number ∙ omega arith)
+      ∙ sym (numbered-push 1 calls call)
+
+  pub length_answered : length new ≤ length h + 4
+  length_answered =
+      let h1 = h ++ releases earlier (length h) in
+      let h2 = h1 ++ begun at line call reply ∷ [] in
+      let h3 = h2 ++ releases between upto in
+      omega (
+        arith,
+        ap (λ (es : List Event). length es) are,
+        one_more h3 (event.Ret later place answer),
+        length-append h2 (releases between upto),
+        one_more h1 (begun at line call reply),
+        length-append h (releases earlier (length h)),
+        few_releases earlier (length h),
+        few_releases between upto,
+      )
+
+-- ---- the file system is left clean behind the last call
+
 module _ (opened : ℕ) (h new : List Event) (s : State) (at count : ℕ) (run : IsRun opened h s count) (low : count ≤ at) (are : new ≡ h ++ event.Unmounted at ∷ []) where
   last_world : after_all (beginning opened) new ≡ after (after_all (beginning opened) h) (event.Unmounted at)
   last_world = ap (after_all (beginning opened)) are ∙ after_all-append (beginning opened) h (event.Unmounted at ∷ [])
@@ -128,7 +206,7 @@ module _ (opened : ℕ) (h new : List Event) (s : State) (at count : ℕ) (run :
   pub ended_unmounted : IsEnded opened new
   ended_unmounted = record {
     legal = subst (λ (es : List Event). Legal (beginning opened) es) (sym are) (Legal-push (beginning opened) h (event.Unmounted at) run.legal
-        (record { later = omega (arith, run.at, low); mounted = run.mounted; comes = ap (λ (m : Waits). map.len m) run.idle ∙ map.len-empty nat_cmp Waiting }));
+        (record { later = omega (arith, run.at, low); mounted = run.mounted; comes = ap (λ (m : Calls). map.len m) run.idle ∙ map.len-empty nat_cmp Waiting }));
     answered = ap (λ (x : World). x.waiting) last_world ∙ run.idle;
   }
 
@@ -137,12 +215,6 @@ module _ (opened : ℕ) (h new : List Event) (s : State) (at count : ℕ) (run :
 
   pub lines_unmounted : filter_map asked_of new ≡ filter_map asked_of h
   lines_unmounted = ap (filter_map asked_of) are ∙ filter_map-append asked_of h (event.Unmounted at ∷ []) ∙ append-nil (filter_map asked_of h)
-
-pub length_answered : (h new : List Event) (call : Call) (line at later place : ℕ) (reply answer : Reply)
-    → new ≡ (h ++ begun at line call reply ∷ []) ++ event.Ret later place answer ∷ [] → length new ≡ length h + 2
-length_answered h new call line at later place reply answer are =
-    ap (λ (es : List Event). length es) are
-    ∙ omega (arith, length-append (h ++ begun at line call reply ∷ []) (event.Ret later place answer ∷ []), length-append h (begun at line call reply ∷ []))
 
 pub onward_on : (a b d : dev.State) → Onward a b → Onward b d → Onward a d
 onward_on a b d x y = record { size = y.size ∙ x.size; later = omega (arith, x.later, y.later); reads = y.reads ∙ x.reads; faults = omega (arith, x.faults, y.faults) }

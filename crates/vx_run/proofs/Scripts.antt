@@ -14,7 +14,7 @@ use Rattle.vx_script.specs.declared.script.ScriptRefusal.{ScriptRefusal}
 use Rattle.vx_script.specs.declared.script.ScriptRefusal.TheVariants as script
 use Rattle.vx_script.specs.declared.start.StartRefusal.{StartRefusal}
 use Rattle.vx_script.specs.declared.start.StartRefusal.TheVariants as start
-use Rattle.vx_run.specs.Cores.{HasMode}
+use Rattle.vx_txn.specs.Calls.{HasMode}
 use Rattle.vx_run.specs.Words.{are_words}
 use Rattle.vx_run.specs.Reads.{HasRead}
 use Rattle.vx_run.specs.Ends.{Setting, Asks, IsRead, IsUnasked, HasEnded, refused}
@@ -47,6 +47,13 @@ unasked_of s faults bytes script.NoMemory words h e = words
 
 built : (c : Call) → IsScriptCall c → has_step c ≡ true
 built (call.Create path mode) h = refl
+built (call.Mkdir path mode) h = refl
+built (call.Unlink path) h = refl
+built (call.Rmdir path) h = refl
+built (call.Link old new) h = refl
+built (call.Rename old new) h = refl
+built (call.Chmod path mode) h = refl
+built (call.Stat path) h = refl
 built (call.List path) h = refl
 built _ h = absurd h
 
@@ -56,9 +63,11 @@ all_built calls is = λ k d lt. built _ (is.each k d lt)
 
 has_mode : (c : Call) → IsScriptCall c → HasMode c
 has_mode (call.Create path mode) h = h.1
+has_mode (call.Mkdir path mode) h = h.1
+has_mode (call.Chmod path mode) h = h.1
 has_mode _ h = tt
 
--- each create of a script has a mode that an inode can have
+-- each mode in a script is one that an inode can have
 pub all_modes : (calls : List Call) → IsScript calls → All HasMode calls
 all_modes calls is = λ k d lt. has_mode _ (is.each k d lt)
 

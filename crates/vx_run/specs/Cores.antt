@@ -13,14 +13,13 @@ use Rattle.vx_log.specs.Logs.{LogView}
 use Rattle.vx_log.specs.Moments.{Told, Past, Passed}
 use Rattle.vx_model.specs.Allowed.{come_by, is_refusal, IsAllowed}
 use Rattle.vx_model.specs.AllowedLaws.{IsPlaced}
-use Rattle.vx_model.specs.LaidOut.{IsLaidOut}
 use Rattle.vx_model.specs.Replays.{ReplaysAs}
 use Rattle.vx_model.specs.State.{State, fresh}
 use Rattle.vx_model.specs.Step.{step}
 use Rattle.vx_model.specs.Touching.{Touched, IsTouched, untouched}
 use Rattle.vx_model.specs.Waiting.{Waits}
 use Rattle.vx_model.specs.Legal.{World, opening, after_all, Legal, IfThere, is_fault, is_no_space, state_after, with_released}
-use Rattle.vx_kernel.specs.Journals.{new_log_blocks, IsAtRest, IsIdle, IsMounted, IsKept}
+use Rattle.vx_kernel.specs.Journals.{new_log_blocks, IsAtRest, IsMounted, IsKept}
 use Rattle.vx_txn.specs.Metas.{IsStateOf}
 use Rattle.vx_txn.specs.declared.meta.Meta.{Meta}
 use Rattle.vx_run.specs.declared.engine.Core.{Core}
@@ -77,7 +76,6 @@ pub record HasDone (s : State) (place : ℕ) (call : Call) (reply : Reply) (m : 
   pub mounted : IsMounted new
   pub touched : IsTouched s new t
   pub waits : Waits place s new
-  pub refused : is_refusal reply ≡ true → t ≡ untouched
 
 -- a call was done in memory, and is to be noted
 pub record IsAsked (d : dev.State) (core : Core) (call : Call) (reply : Reply) : Type 0 where

@@ -1,4 +1,3 @@
-pub mod Replies
 pub mod Cores
 pub mod Faults
 pub mod Words

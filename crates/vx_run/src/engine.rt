@@ -17,7 +17,6 @@ ghost use Rattle.vx_run.specs.Cores.{HasDone, IsAsked, releases};
 ghost use Rattle.vx_run.specs.Faults.{FitsMount, FitsDevice, AreInOrder, ReplyInOrder, EndInOrder};
 ghost use Rattle.vx_base.specs.declared.reply.Reply.TheVariants.{Refused};
 
-use crate::sectors::stage;
 use std::alloc::{AllocError, Global};
 use vx_base::{Call, Event, Refusal, Reply};
 use vx_dev::{BlockDev, DevFault};
@@ -26,7 +25,7 @@ use vx_log::log_length;
 use vx_model::allowed::allowed_laws;
 use vx_model::edits::edit_laws;
 use vx_model::waiting::waiting_laws;
-use vx_txn::{Meta, Touched};
+use vx_txn::{Meta, Touched, stage};
 
 /// What a mount keeps beside its device.
 #[derive(Drop)]
@@ -124,6 +123,7 @@ impl Core {
         if !is_no_space(&reply) || !self.meta.has_pending() {
             return (reply, answer);
         }
+        self.touched.clear();
         match self.release_all(dev) {
             Ok(()) => self.replies(alloc, call),
             Err(_) => twice(&Refusal::WriteFault),
@@ -161,7 +161,7 @@ impl Core {
         requires room { vec_len self.old.history < vec_capacity self.old.history }
         ensures core { IsCore (D.state dev.new) self.new }
         ensures history { (at : Option ℕ) × (self.new.history.items ≡ self.old.history.items ++ releases at (length self.old.history.items)) }
-        ensures released { OnOk result ((s : State) → IsStateOf self.new.meta s → (b : ℕ) → s.layout.pending b ≡ None) }
+        ensures released { OnOk result ((b : ℕ) → (after_all (beginning self.new.opened) self.new.history.items).state.layout.pending b ≡ None) }
         ensures order { AreInOrder self.old.disabled (D.state dev.old) self.old.history.items → OnOk result (AreInOrder self.new.disabled (D.state dev.new) self.new.history.items) }
         ensures fault { AreInOrder self.old.disabled (D.state dev.old) self.old.history.items → OnErr result (ReplyInOrder self.new.disabled (D.state dev.new) self.new.history.items (Refused no.WriteFault)) }
         ensures capacity { vec_capacity self.old.history ≤ vec_capacity self.new.history }
@@ -173,7 +173,8 @@ impl Core {
         edit_laws();
         match self.journal.empty(dev) {
             Ok(()) => {
-                self.release(dev.ops(), self.history.len() as u64);
+                let upto = self.history.len() as u64;
+                self.release(dev.ops(), upto);
                 Ok(())
             }
             Err(fault) => {
@@ -196,7 +197,14 @@ impl Core {
     }
 
     /// Notes a call that was done in memory, makes it durable where it changed something, and notes its answer.
-    fn noted<D: BlockDev>(&mut self, dev: &mut D, line: u32, call: Call, reply: Reply, answer: Reply)
+    fn noted<D: BlockDev>(
+        &mut self,
+        dev: &mut D,
+        line: u32,
+        call: Call,
+        reply: Reply,
+        answer: Reply,
+    )
         requires asked { IsAsked (D.state dev.old) self.old call reply }
         requires few { most self.old.touched ≤ 4 }
         requires copy { answer ≡ reply }
@@ -213,6 +221,8 @@ impl Core {
         ensures onward { Onward (D.state dev.old) (D.state dev.new) }
     {
         allowed_laws();
+        edit_laws();
+        waiting_laws();
         let at = dev.ops();
         let place = self.history.len() as u64;
         self.history.push_reserved(Event::Do {
@@ -232,6 +242,7 @@ impl Core {
     fn durable<D: BlockDev>(&mut self, dev: &mut D, place: u64, answer: Reply) -> Reply
         requires size { 9220 ≤ (D.state dev.old).size }
         requires rest { self.old.disabled ≡ None → IsAtRest self.old.journal }
+        requires sound { (new : State) × IsMounted new × IsStateOf self.old.meta new }
         requires few { most self.old.touched ≤ 4 }
         requires room { vec_len self.old.history < vec_capacity self.old.history }
         requires limit { self.old.journal.log.head + 17 ≤ 2 ^ 62 }
@@ -243,6 +254,7 @@ impl Core {
         ensures carried { (s new : State) → self.old.touched ≢ untouched → self.old.disabled ≡ None → IsMounted s → IsMounted new → IsStateOf self.old.meta new → IsTouched s new self.old.touched
             → Waits place s new → Told (D.state dev.old) (IsKept self.old.journal.log self.old.journal.homes s)
             → IsCarried s new place (D.state dev.old) (D.state dev.new) self.old self.new result }
+        ensures history { (at : Option ℕ) × (self.new.history.items ≡ self.old.history.items ++ releases at place) }
         ensures capacity { vec_capacity self.old.history ≤ vec_capacity self.new.history }
         ensures opened { self.new.opened ≡ self.old.opened }
         ensures touched { self.new.touched ≡ self.old.touched }
@@ -265,6 +277,7 @@ impl Core {
     fn carry<D: BlockDev>(&mut self, dev: &mut D, place: u64) -> Result<(), DevFault>
         requires size { 9220 ≤ (D.state dev.old).size }
         requires rest { IsAtRest self.old.journal }
+        requires sound { (new : State) × IsMounted new × IsStateOf self.old.meta new }
         requires few { most self.old.touched ≤ 4 }
         requires room { vec_len self.old.history < vec_capacity self.old.history }
         requires limit { self.old.journal.log.head + 17 ≤ 2 ^ 62 }
@@ -273,6 +286,7 @@ impl Core {
         ensures carried { (s new : State) → IsMounted s → IsMounted new → IsStateOf self.old.meta new → IsTouched s new self.old.touched
             → Waits place s new → Told (D.state dev.old) (IsKept self.old.journal.log self.old.journal.homes s)
             → IsCommitted s new place (D.state dev.old) (D.state dev.new) self.old self.new result }
+        ensures history { (at : Option ℕ) × (self.new.history.items ≡ self.old.history.items ++ releases at place) }
         ensures capacity { vec_capacity self.old.history ≤ vec_capacity self.new.history }
         ensures same { self.new ≡ record self.old { journal = self.new.journal; meta = self.new.meta; history = self.new.history } }
         ensures onward { Onward (D.state dev.old) (D.state dev.new) }

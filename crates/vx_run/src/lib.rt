@@ -6,7 +6,6 @@ mod gate;
 mod laws;
 mod outcome;
 mod read;
-mod sectors;
 mod top;
 mod words;
 

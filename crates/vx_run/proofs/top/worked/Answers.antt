@@ -1,20 +1,18 @@
-use Rattle.std.proofs.Common.{◌≡◌, ℕ, ◌+◌, List, length, replicate, Option, None, map, sym, ◌∙◌, subst, ap, not, refl, arith}
+use Rattle.std.proofs.Common.{◌≡◌, ℕ, ◌+◌, List, [], length, map, sym, ◌∙◌, subst, ap, not, refl, arith}
 use Rattle.std.specs.Prelude.{All, IfSome}
 use Rattle.std.specs.String.{string_bytes}
 use Rattle.std.proofs.lemmas.List.Elements.{All-nil}
 use Rattle.vx_base.specs.declared.event.Event.{Event}
+use Rattle.vx_layout.specs.LogForms.{AfterImage}
 use Rattle.vx_log.specs.Logs.{LogView}
 use Rattle.vx_log.specs.Moments.{Told, Always}
 use Rattle.vx_model.specs.Allowed.{come_by, IsAllowed}
 use Rattle.vx_model.specs.AllowedLaws.{IsPlaced}
-use Rattle.vx_model.specs.LaidOut.{IsLaidOut}
 use Rattle.vx_model.specs.Legal.{after_all}
-use Rattle.vx_model.specs.State.{State, fresh}
+use Rattle.vx_model.specs.State.{fresh}
 use Rattle.vx_run.specs.Cores.{beginning, IsEnded, is_unmounted, TellsFaults}
 use Rattle.vx_run.specs.Ends.{Setting}
-use Rattle.vx_run.specs.Journals.{IsKept, IsLeft}
-use Rattle.vx_run.specs.Metadata.{state_of}
-use Rattle.vx_run.specs.States.{new_log_blocks}
+use Rattle.vx_kernel.specs.Journals.{new_log_blocks, IsKept, IsLeft}
 use Rattle.vx_run.proofs.Ending.{none_of, some_of, none_or_some, enabled_tells}
 use Rattle.vx_run.proofs.Scripts.{ended_unasked, all_built, all_modes}
 use Rattle.vx_run.proofs.Crashing.{live_formatted}
@@ -58,26 +56,31 @@ answer_all-requires-clause-core g c =
     let new = c.in-Ok-fresh.ensures in
     let core = c.in-Ok-fresh.core in
     let h = core.history.items in
-    let s = state_of core.metadata in
+    let s = fresh new_log_blocks 1 in
     let d = g.D.BlockDev.state c.format.new.dev in
-    let with_log = subst (λ (log : LogView). Told d (IsKept log (replicate 68 None) (fresh new_log_blocks 1))) (sym new.log) c.in-Ok-format.ensures.kept in
-    let with_homes = subst (λ (homes : List (Option (List ℕ))). Told d (IsKept core.journal.log homes (fresh new_log_blocks 1))) (sym new.homes) with_log in
-    let kept = subst (λ (x : State). Told d (IsKept core.journal.log core.journal.homes x)) (sym new.state) with_homes in
+    let with_log = subst (λ (log : LogView). Told d (IsKept log [] s)) (sym new.log) c.in-Ok-format.ensures.kept in
+    let kept = subst (λ (homes : List AfterImage). Told d (IsKept core.journal.log homes s)) (sym new.homes) with_log in
     record {
-      run = new.run d.count (omega (arith, c.ops.ensures.number, c.in-Ok-format.ensures.count));
-      size = omega (arith, c.sectors-have.ensures, c.if-have-lt-SECTORS.false, c.in-Ok-format.ensures.onward.size);
-      rest = λ _. new.rest;
-      head = omega (arith, new.head);
-      mounted = record {
-        laid_out = subst IsLaidOut (sym new.state) (c.fresh_reads.ensures.laid_out new_log_blocks 1 (omega arith) (omega arith));
-        log_blocks = refl;
-        units = refl;
+      state = s;
+      base = record {
+        run = new.run d.count (omega (arith, c.ops.ensures.number, c.in-Ok-format.ensures.count));
+        size = omega (arith, c.sectors-have.ensures, c.if-have-lt-SECTORS.false, c.in-Ok-format.ensures.onward.size);
+        rest = λ _. new.rest;
+        head = omega (arith, new.head);
+        mounted = record {
+          laid_out = c.fresh_reads.ensures.laid_out new_log_blocks 1 (omega arith) (omega arith);
+          log_blocks = refl;
+          units = refl;
+        };
+        come = λ m from. subst (λ (es : List Event). come_by es m ≡ length es) (sym new.history) refl;
+        placed = subst (λ (es : List Event). All (IsPlaced (length es)) es) (sym new.history) (All-nil (IsPlaced 0));
+        pending = λ b q waits. absurd cc;
+        live = live_formatted core.opened h s d.told core.disabled core.journal.log core.journal.homes new.enabled
+            (subst (λ (n : ℕ). IfSome d.told (λ t. length t.ops ≡ n)) (omega (arith, c.in-Ok-format.ensures.count, c.ops.ensures.number, new.opened)) (g.met.D.BlockDev.in_step c.format.new.dev))
+            kept;
       };
-      come = λ m from. subst (λ (es : List Event). come_by es m ≡ length es) (sym new.history) refl;
-      placed = subst (λ (es : List Event). All (IsPlaced (length es)) es) (sym new.history) (All-nil (IsPlaced 0));
-      live = live_formatted core.opened h s d.told core.disabled core.journal.log core.journal.homes new.enabled
-          (subst (λ (n : ℕ). IfSome d.told (λ t. length t.ops ≡ n)) (omega (arith, c.in-Ok-format.ensures.count, c.ops.ensures.number, new.opened)) (g.met.D.BlockDev.in_step c.format.new.dev))
-          kept;
+      meta = new.meta;
+      touched = new.touched;
     }
 
 pub answer_all-requires-clause-modes : goal.answer_all-requires-clause-modes
