@@ -2,7 +2,7 @@
 ghost use Rattle.std.specs.Prelude.{◌≡◌, ◌⊎◌, ◌+◌, ◌^◌, ◌≤◌, ◌<◌, ◌++◌, ◌∷◌, [], length, OnOk, OnErr, IfOk, IsTrue, Err, Some, None, map, slice_get, slice_set};
 ghost use Rattle.std.specs.List.{All, flat_map, sum_by, position_or_len};
 ghost use Rattle.std.specs.List.Sorted.{IsPermutation, IsSorted};
-ghost use Rattle.vx_dir.specs.Directories.{empty, entry_room, entry_count, has_room, block_of, block_at, inode_of, HasDistinctNames, HasShortNames, with_block, blocks_with, with_entry, add_answer, holds, inode_in, without_entry, without_name, AreNames, by_name, last_place, put_last, packed, IsTightened};
+ghost use Rattle.vx_dir.specs.Directories.{empty, entry_room, entry_count, has_room, block_of, block_at, inode_of, HasDistinctNames, HasShortNames, with_block, blocks_with, with_entry, add_answer, holds, inode_in, without_entry, without_name, AreNames, by_name, last_place, put_last, packed, IsTightened, IsKept};
 ghost use Rattle.vx_dir.specs.Sizes.{used_by, entry_size};
 
 use crate::block::DirBlock;
@@ -87,6 +87,31 @@ impl DirBlocks {
         }
     }
 
+    /// The block that an entry of this name would go to, or why there is none.
+    pub fn place_for(&self, name: &Name) -> Result<u32, DirRefusal>
+        requires { length name.now ≤ 255 }
+        ensures { result ≡ add_answer self.now name.now }
+    {
+        let count = self.blocks.len();
+        if block_of(self.blocks.as_slice(), name) < count {
+            return Err(DirRefusal::Exist);
+        }
+        let size = 5 + name.as_slice().len() as u32;
+        let place = place_for(self.blocks.as_slice(), self.block_size - 4, size);
+        if place == self.limit as usize {
+            let end = u64::from(self.block_size) * (count as u64 + 1);
+            return Err(DirRefusal::TooBig { end });
+        }
+        Ok(place as u32)
+    }
+
+    /// Names are distinct, and each block's entries fit.
+    pub fn kept(&self)
+        ensures { IsKept self.now }
+    {
+        let _ = &self.blocks;
+    }
+
     /// Adds a last block as it was read; unchanged where memory is short.
     pub fn push(&mut self, block: &DirValue) -> Result<(), AllocError>
         requires few { length self.old.blocks < self.old.limit }
@@ -147,6 +172,18 @@ impl DirBlocks {
         let mut names = names_of(alloc, self.blocks.as_slice())?;
         names.sort_unstable();
         list_of(alloc, names.as_slice())
+    }
+
+    /// The same blocks, in memory of their own.
+    pub fn copy(&self) -> Result<DirBlocks, AllocError>
+        ensures { IfOk result (λ copy. copy ≡ self.now) }
+    {
+        let blocks = copies_of(*self.blocks.allocator(), self.blocks.as_slice())?;
+        Ok(DirBlocks {
+            block_size: self.block_size,
+            limit: self.limit,
+            blocks,
+        })
     }
 
     /// Packs the entries in the order of their names' bytes, each behind the last, where that takes fewer blocks, and
@@ -313,6 +350,17 @@ fn place_for(blocks: &[DirBlock], room: u32, size: u32) -> usize
         }
     }
     blocks.len()
+}
+
+fn copies_of(alloc: Global, blocks: &[DirBlock]) -> Result<Vec<DirBlock>, AllocError>
+    requires { All (λ b. used_by b ≤ 8192) blocks.now }
+    ensures { IfOk result (λ copies. copies.items ≡ blocks.now) }
+{
+    let mut copies = Vec::new(alloc);
+    for block in blocks {
+        copies.push(copy_of(alloc, block.as_slice())?)?;
+    }
+    Ok(copies)
 }
 
 fn copy_of(alloc: Global, entries: &[DirEntry]) -> Result<DirBlock, AllocError>

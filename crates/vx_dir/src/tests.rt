@@ -20,6 +20,8 @@ fn two_names(rt: HostRuntime) -> Result<(), Fail> {
     assert_eq!(rt; names.len(), 2);
     assert!(rt; *names.get(0) == a);
     assert!(rt; *names.get(1) == b);
+    let copy = directory.copy()?;
+    assert!(rt; copy.find(&b) == Some(Ino::new(4)));
     assert!(rt; matches!(directory.remove(&a), Ok(ino) if ino == Ino::new(3)));
     assert!(rt; directory.remove(&a).is_err());
     assert!(rt; directory.find(&a).is_none());

@@ -68,6 +68,13 @@ impl InodeTable {
         })
     }
 
+    /// The number of units.
+    pub fn units(&self) -> u32
+        ensures { result ≡ self.now.units }
+    {
+        self.units
+    }
+
     /// The inode of a number, if it is used.
     pub fn get(&self, ino: Ino) -> Option<&Inode>
         ensures value { option_copied result ≡ inode_at self.now ino }

@@ -1,14 +1,14 @@
 -- What a call does to the metadata, and what it answers.
-use Rattle.std.specs.Prelude.{◌≡◌, ◌≤◌, ◌<◌, ℕ, length}
+use Rattle.std.specs.Prelude.{◌≡◌, ◌≤◌, ℕ, max, length}
 use Rattle.vx_base.specs.declared.call.Call.{Call}
 use Rattle.vx_base.specs.declared.call.Call.TheVariants as call
 use Rattle.vx_base.specs.declared.reply.Reply.{Reply}
-use Rattle.vx_model.specs.State.{State, Done}
+use Rattle.vx_model.specs.Outcome.{Maybe}
+use Rattle.vx_model.specs.State.{State, Done, settled}
 use Rattle.vx_model.specs.LaidOut.{IsLaidOut}
-use Rattle.vx_model.specs.Touching as touching
+use Rattle.vx_model.specs.Touching.{Touched, IsTouched}
 use Rattle.vx_txn.specs.declared.meta.Meta.{Meta}
-use Rattle.vx_txn.specs.declared.touched.Touched.{Touched}
-use Rattle.vx_txn.specs.Metas.{IsStateOf, touched_of}
+use Rattle.vx_txn.specs.Metas.{IsStateOf}
 
 -- a mode that an inode can have
 abbrev pub HasMode : Call → Type 0
@@ -21,18 +21,17 @@ HasMode _ = Unit {0}
 pub record HasGone (s new : State) (m : Meta) (t : Touched) : Type 0 where
   pub state : IsStateOf m new
   pub laid_out : IsLaidOut new
-  pub touched : touching.IsTouched s new (touched_of t)
+  pub touched : IsTouched s new t
 
 -- the call was done
 pub record IsDone (s : State) (done : Done) (m : Meta) (t : Touched) (reply : Reply) : Type 0 where
   pub gone : HasGone s done.state m t
   pub reply_is : reply ≡ done.reply
 
--- a transaction of a call of names has few sectors
-pub record IsFew (t : Touched) : Type 0 where
-  pub inodes : length t.inodes.items ≤ 4
-  pub directories : length t.directories.items ≤ 4
-  pub units : length t.units.items ≤ 4
+-- the call that this chain says was done, or refused
+abbrev pub IsSettled : State → Maybe Done → Meta → Touched → Reply → Type 0
+IsSettled s chain m t reply = IsDone s (settled s chain) m t reply
 
-abbrev pub IsNone : Touched → Type 0
-IsNone t = touched_of t ≡ touching.untouched
+-- the most of one kind that is touched
+abbrev pub most : Touched → ℕ
+most t = max (length t.inodes) (max (length t.directories) (length t.units))

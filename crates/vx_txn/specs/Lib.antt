@@ -1,2 +1,12 @@
+pub mod Directories
 pub mod Metas
 pub mod Calls
+pub mod Edits
+pub mod Replies
+pub mod Rooms
+pub mod Values
+pub mod Makings
+pub mod Removals
+pub mod Links
+pub mod Renames
+pub mod Staged

@@ -1,13 +1,38 @@
 //! The metadata.
-ghost use Rattle.std.specs.Prelude.{◌≡◌, ◌+◌, ◌*◌, ◌≤◌, ◌<◌, IfOk};
+ghost use Rattle.std.specs.Prelude.{◌≡◌, ◌+◌, ◌*◌, ◌≤◌, ◌<◌, IfOk, IfSome, OnErr, ℕ, Option, None, true, false, is_some, IsTrue};
+ghost use Rattle.std.specs.Option.{option_copied};
 ghost use Rattle.vx_base.specs.declared.kind.FileKind.TheVariants as kind;
-ghost use Rattle.vx_model.specs.State.{fresh};
+ghost use Rattle.vx_layout.specs.Places.{is_data};
+ghost use Rattle.vx_model.specs.Contents.{inode_value};
+ghost use Rattle.vx_model.specs.LaidOut.{IsLaidOut};
+ghost use Rattle.vx_model.specs.Layout.{volume, claim_of};
+ghost use Rattle.vx_model.specs.Legal.{IfThere, with_released};
+ghost use Rattle.vx_model.specs.Naming.{list};
+ghost use Rattle.vx_model.specs.State.{State, fresh};
+ghost use Rattle.vx_model.specs.Step.{has_step, step};
+ghost use Rattle.vx_model.specs.Touching.{untouched};
 ghost use Rattle.vx_model.specs.Tree.{no_attrs};
+ghost use Rattle.vx_txn.specs.Calls.{HasMode, IsDone, IsSettled, most};
+ghost use Rattle.vx_txn.specs.Directories.{directory_at};
+ghost use Rattle.vx_txn.specs.Replies.{IsShort, IsSound as IsSoundReply};
+ghost use Rattle.vx_txn.specs.Values.{value_by, block_count, extent_from, has_short_step};
+ghost use Rattle.vx_txn.specs.Metas.{IsStateOf, IsSound, IsUnchanged, Stands};
 
+use crate::chmod::chmod;
 use crate::directory::Directory;
+use crate::link::link;
+use crate::make::{Making, make};
+use crate::read::{list, stat};
+use crate::remove::{rmdir, unlink};
+use crate::rename::rename;
+use crate::slots::directory_at;
+use crate::touched::Touched;
 use std::alloc::{AllocError, Global};
 use vx_alloc::FreeMap;
-use vx_base::{Block, ExtAttrs, FileKind, Ino, Inode};
+use vx_base::{
+    Block, Call, ExtAttrs, Extent, FileKind, Ino, Inode, InodeValue, Kind, Page, Reply,
+    copy_of_reply,
+};
 use vx_inode::InodeTable;
 
 /// The units of a new file system.
@@ -23,11 +48,11 @@ pub struct Meta {
     pub inodes: InodeTable,
     pub directories: Vec<Option<Directory>>,
     pub free: FreeMap,
+    /// The first block of unit 0.
+    pub first: Block,
 }
 
 impl Meta {
-    ghost use Rattle.vx_txn.specs.Metas.{IsStateOf};
-
     /// The metadata of a new file system of one unit, whose root is empty.
     pub fn fresh(alloc: Global, log_blocks: u32) -> Result<Self, AllocError>
         requires { log_blocks ≤ 2048 }
@@ -39,12 +64,79 @@ impl Meta {
         directories.push(None)?;
         directories.push(None)?;
         directories.push(Some(Directory::new(alloc)))?;
-        let free = FreeMap::new(alloc, Block::new(2 + log_blocks), UNITS)?;
+        let first = Block::new(2 + log_blocks);
+        let free = FreeMap::new(alloc, first, UNITS)?;
         Ok(Meta {
             inodes,
             directories,
             free,
+            first,
         })
+    }
+
+    /// Does a call of names at this place of the history, and answers its reply, twice. Nothing changes where memory is
+    /// short or the call is refused.
+    pub fn apply(
+        &mut self,
+        alloc: Global,
+        call: &Call,
+        place: u64,
+        touched: &mut Touched,
+    ) -> Result<(Reply, Reply), AllocError>
+        requires built { has_step call.now ≡ true }
+        requires mode { HasMode call.now }
+        requires sound { IsSound self.old }
+        requires empty { touched.old ≡ untouched }
+        ensures done { (s : State) (session : ℕ) → IsLaidOut s → IsStateOf self.old s
+            → IfOk result (λ replies. IfThere (step s place session call.now) (λ done. IsDone s done self.new touched.new replies.0)) }
+        ensures copy { IfOk result (λ replies. replies.1 ≡ replies.0) }
+        ensures sound { IfOk result (λ replies. IsSoundReply replies.0) }
+        ensures few { most touched.new ≤ 4 }
+        ensures err { (s : State) → IsStateOf self.old s → OnErr result (IsStateOf self.new s) }
+        ensures untouched { OnErr result (touched.new ≡ untouched) }
+    {
+        match call {
+            Call::List { path } => listed(self, alloc, path.as_slice()),
+            _ => changed(self, alloc, call, place, touched),
+        }
+    }
+
+    /// Blocks freed by events at places below `upto` are free.
+    pub fn release(&mut self, upto: u64)
+        ensures { (s : State) → IsLaidOut s → IsStateOf self.old s → IsStateOf self.new (with_released s upto) }
+    {
+        self.free.release(upto);
+    }
+
+    /// Whether blocks wait to be free.
+    pub fn has_pending(&self) -> bool
+        ensures { (s : State) → IsStateOf self.now s → result ≡ false → (b : ℕ) → s.layout.pending b ≡ None }
+    {
+        self.free.pending() != 0
+    }
+
+    /// What the inode of a number says.
+    pub fn inode_value(&self, ino: Ino) -> Option<InodeValue>
+        ensures { (s : State) → IsLaidOut s → IsStateOf self.now s → result ≡ inode_value s ino }
+    {
+        match self.inodes.get(ino) {
+            Some(inode) => Some(value_of(*inode, self.directory(ino))),
+            None => None,
+        }
+    }
+
+    /// The directory of an inode number.
+    pub fn directory(&self, ino: Ino) -> Option<&Directory>
+        ensures { option_copied result ≡ directory_at self.now.directories.items ino }
+    {
+        directory_at(self.directories.as_slice(), ino)
+    }
+
+    /// Whether a directory has a data block.
+    pub fn is_claimed(&self, b: Block) -> bool
+        ensures { (s : State) → IsLaidOut s → IsStateOf self.now s → IsTrue (is_data (volume s.layout) b) → result ≡ is_some (claim_of s.layout b) }
+    {
+        self.free.is_used(b)
     }
 }
 
@@ -62,5 +154,160 @@ fn root() -> Inode
             reserve: 0,
             flags: 0,
         },
+    }
+}
+
+/// What the inode and its directory say, as the inode's slot has it.
+fn value_of(inode: Inode, directory: Option<&Directory>) -> InodeValue
+    ensures { result ≡ value_by inode (option_copied directory.entry) }
+{
+    let first = match directory {
+        Some(directory) => first_extent(directory.at()),
+        None => None,
+    };
+    InodeValue {
+        inode,
+        maps: 0,
+        extents: block_count(directory),
+        first: [first, None, None, None, None, None],
+        map: None,
+    }
+}
+
+fn block_count(directory: Option<&Directory>) -> u32
+    ensures { result ≡ block_count (option_copied directory.entry) }
+{
+    match directory {
+        Some(directory) => directory.names().blocks(),
+        None => 0,
+    }
+}
+
+fn first_extent(at: &[Block]) -> Option<Extent>
+    ensures { result ≡ extent_from at.now }
+{
+    match at.first() {
+        Some(start) => Some(Extent {
+            page: Page::new(0),
+            start: *start,
+            len: 1,
+            kind: Kind::Data,
+        }),
+        None => None,
+    }
+}
+
+/// What list answers, twice.
+fn listed(meta: &Meta, alloc: Global, path: &[u8]) -> Result<(Reply, Reply), AllocError>
+    ensures done { (s : State) → Stands meta.now s → IfOk result (λ replies. IsSettled s (list s path.now) meta.now untouched replies.0) }
+    ensures copy { IfOk result (λ replies. replies.1 ≡ replies.0) }
+    ensures sound { IfOk result (λ replies. IsSoundReply replies.0) }
+{
+    let reply = list(meta, alloc, path)?;
+    let copy = copy_of_reply(&reply)?;
+    Ok((reply, copy))
+}
+
+/// Does a call of names but for list, and answers its reply, twice.
+fn changed(
+    meta: &mut Meta,
+    alloc: Global,
+    call: &Call,
+    place: u64,
+    touched: &mut Touched,
+) -> Result<(Reply, Reply), AllocError>
+    requires built { has_short_step call.now ≡ true }
+    requires mode { HasMode call.now }
+    requires sound { IsSound meta.old }
+    requires empty { touched.old ≡ untouched }
+    ensures done { (s : State) (session : ℕ) → Stands meta.old s
+        → IfOk result (λ replies. IfThere (step s place session call.now) (λ done. IsDone s done meta.new touched.new replies.0)) }
+    ensures copy { IfOk result (λ replies. replies.1 ≡ replies.0) }
+    ensures short { IfOk result (λ replies. IsShort replies.0) }
+    ensures few { most touched.new ≤ 4 }
+    ensures unchanged { OnErr result (IsUnchanged meta.old meta.new) }
+    ensures untouched { OnErr result (touched.new ≡ untouched) }
+{
+    match short_reply(meta, alloc, call, place, touched) {
+        Ok(reply) => {
+            let copy = short_copy(&reply);
+            Ok((reply, copy))
+        }
+        Err(_) => Err(AllocError),
+    }
+}
+
+/// Does a call of names but for list.
+fn short_reply(
+    meta: &mut Meta,
+    alloc: Global,
+    call: &Call,
+    place: u64,
+    touched: &mut Touched,
+) -> Result<Reply, AllocError>
+    requires built { has_short_step call.now ≡ true }
+    requires mode { HasMode call.now }
+    requires sound { IsSound meta.old }
+    requires empty { touched.old ≡ untouched }
+    ensures done { (s : State) (session : ℕ) → Stands meta.old s
+        → IfOk result (λ reply. IfThere (step s place session call.now) (λ done. IsDone s done meta.new touched.new reply)) }
+    ensures short { IfOk result IsShort }
+    ensures few { most touched.new ≤ 4 }
+    ensures unchanged { OnErr result (IsUnchanged meta.old meta.new) }
+    ensures untouched { OnErr result (touched.new ≡ untouched) }
+{
+    match call {
+        Call::Create { path, mode } => {
+            let making = Making {
+                kind: FileKind::File,
+                mode: *mode,
+            };
+            make(meta, alloc, path.as_slice(), making, touched)
+        }
+        Call::Mkdir { path, mode } => {
+            let making = Making {
+                kind: FileKind::Directory,
+                mode: *mode,
+            };
+            make(meta, alloc, path.as_slice(), making, touched)
+        }
+        Call::Unlink { path } => unlink(meta, alloc, path.as_slice(), place, touched),
+        Call::Rmdir { path } => rmdir(meta, alloc, path.as_slice(), place, touched),
+        Call::Link { old, new } => link(meta, alloc, old.as_slice(), new.as_slice(), touched),
+        Call::Rename { old, new } => {
+            rename(meta, alloc, old.as_slice(), new.as_slice(), place, touched)
+        }
+        Call::Chmod { path, mode } => chmod(meta, alloc, path.as_slice(), *mode, touched),
+        Call::Stat { path } => stat(meta, alloc, path.as_slice()),
+        _ => unreachable!(),
+    }
+}
+
+/// The same reply, which takes no memory.
+fn short_copy(reply: &Reply) -> Reply
+    requires { IsShort reply.now }
+    ensures { result ≡ reply.now }
+{
+    match reply {
+        Reply::Fine => Reply::Fine,
+        Reply::Made { ino } => Reply::Made { ino: *ino },
+        Reply::FileStat {
+            ino,
+            mode,
+            nlink,
+            size,
+        } => Reply::FileStat {
+            ino: *ino,
+            mode: *mode,
+            nlink: *nlink,
+            size: *size,
+        },
+        Reply::DirStat { ino, mode, entries } => Reply::DirStat {
+            ino: *ino,
+            mode: *mode,
+            entries: *entries,
+        },
+        Reply::Refused(why) => Reply::Refused(*why),
+        _ => unreachable!(),
     }
 }

@@ -1,0 +1,29 @@
+use Rattle.std.proofs.Common.{rules, ◌≡◌, ℕ, refl, sym, ◌∙◌, ap, ◌+◌, List, Option, Some, None, ◌++◌, ◌∷◌, []}
+use Rattle.std.specs.FinMap as map
+use Rattle.std.specs.Ordering.{nat_cmp}
+use Rattle.vx_alloc.specs.FreeMaps.{all_free}
+use Rattle.vx_base.specs.declared.inode.Inode.{Inode}
+use Rattle.vx_dir.specs.Directories.{Directory, empty}
+use Rattle.vx_inode.specs.Tables.{Table, inode_at, with_inode}
+use Rattle.vx_txn.specs.Directories.{DirectoryValue}
+use Rattle.vx_txn.proofs.MetaLaws.{fresh_is}
+use Rattle.vx_txn.proofs.meta.Meta.fresh.Goals as goal
+
+abbrev slots_of : Directory → List ℕ → List (Option DirectoryValue)
+slots_of names at = None ∷ None ∷ Some (record { names = names; at = at }) ∷ []
+
+pub put-requires-clause-unused : goal.put-requires-clause-unused
+put-requires-clause-unused c = ap (λ (t : Table). inode_at t c.new-2.result) c.in_ok-inodes.ensures ∙ map.get-empty nat_cmp c.new-2.result
+
+pub returns : goal.returns
+returns c =
+    fresh_is _ c.args.log_blocks
+    (c.in_ok-put.ensures.ok ∙ ap (λ (t : Table). with_inode t c.new-2.result c.root.result) c.in_ok-inodes.ensures
+    ∙ ap (λ (n : ℕ). with_inode (record { units = 1; inodes = map.empty }) n c.root.result) c.new-2.ensures ∙ ap (λ (i : Inode). with_inode (record { units = 1; inodes = map.empty }) 2 i) c.root.ensures)
+    (c.in_ok-push-3.ensures.items
+    ∙ ap (λ (xs : List (Option DirectoryValue)). xs ++ Some c.new-3.result ∷ []) (c.in_ok-push-2.ensures.items ∙ ap (λ (xs : List (Option DirectoryValue)). xs ++ None ∷ []) c.in_ok-push.ensures.items)
+    ∙ ap (λ (xs : List (Option DirectoryValue)). xs ++ None ∷ [] ++ None ∷ [] ++ Some c.new-3.result ∷ []) (let e : c.new-directories.result.items ≡ [] = search rules in e)
+    ∙ ap (λ (n : Directory). slots_of n c.new-3.result.at) c.new-3.ensures.names
+    ∙ ap (λ (a : List ℕ). slots_of (empty 1024 1) a) c.new-3.ensures.at)
+    (c.in_ok-free.ensures ∙ ap (λ (n : ℕ). all_free n 4063 1) c.new-first.ensures)
+    c.new-first.ensures

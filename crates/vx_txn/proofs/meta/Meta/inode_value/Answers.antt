@@ -1,0 +1,10 @@
+use Rattle.std.proofs.Common.{◌∙◌, sym, ap, Option, Some}
+use Rattle.vx_txn.specs.Directories.{DirectoryValue}
+use Rattle.vx_txn.specs.Values.{value_by}
+use Rattle.vx_txn.proofs.MetaLaws.{value_is}
+use Rattle.vx_txn.proofs.meta.Meta.inode_value.Goals as goal
+
+pub returns-in-Some : goal.returns-in-Some
+returns-in-Some c = λ s laid is.
+    ap Some (c.value_of.ensures ∙ ap (λ (o : Option DirectoryValue). value_by c.in-Some.inode.now o) c.directory.ensures)
+    ∙ value_is c.args.self.now s (record { laid_out = laid; is = is }) c.args.ino c.in-Some.inode.now (sym c.in-Some.ensures.value)

@@ -1,0 +1,151 @@
+use Rattle.std.proofs.Common.{◌≡◌, ◌≢◌, ℕ, Some, Ok, sym, ◌∙◌, ap, subst}
+use Rattle.std.specs.FinMap as map
+use Rattle.vx_model.specs.Outcome.{Maybe, ◌>>=◌}
+use Rattle.vx_model.specs.Tree.{Node, IsDirectory}
+use Rattle.vx_model.specs.State.{State}
+use Rattle.vx_model.specs.Edits.{add_name, remove_name}
+use Rattle.vx_model.specs.Removing.{fine}
+use Rattle.vx_txn.specs.Calls.{HasGone}
+use Rattle.vx_txn.specs.Metas.{Stands, IsUnchanged}
+use Rattle.vx_txn.specs.Removals.{unnamed}
+use Rattle.vx_txn.specs.Renames.{move_of, put_over}
+use Rattle.vx_txn.proofs.Lookups.{begun, stands_of, sound_of, done, edited_to, refusal_settled, used_node, node_used, step_of, directory_here, removed_other, added_other, new_of, IsNew}
+use Rattle.vx_txn.proofs.Changes.{unchanged_stands}
+use Rattle.vx_txn.proofs.MakingLaws.{short_refusal, on_err}
+use Rattle.vx_txn.proofs.Renaming.{removed_directory, removed_name, added_unnamed, back_twice, there_still}
+use Rattle.vx_txn.proofs.rename.put_over.Goals as goal
+
+-- the state without both names
+abbrev cleared_of : State → (c : goal.After-add_name-arg-4-1) → State
+cleared_of s c = remove_name (remove_name s c.args.m.now.from.at c.args.m.now.from.name.now) c.args.m.now.to c.args.m.now.name.now
+
+gone_of : (c : goal.After-add_name-arg-4-1) (s : State) → Stands c.args.meta.now s → HasGone s (cleared_of s c) c.remove_name-2.new.meta c.remove_name-2.new.touched
+gone_of c s stands =
+    c.remove_name-2.ensures.removed s (remove_name s c.args.m.now.from.at c.args.m.now.from.name.now)
+    (c.remove_name.ensures.removed s s (begun s c.args.meta.now c.args.touched.now stands c.requires.empty))
+
+pub remove_name-requires-2-clause-directory : goal.remove_name-requires-2-clause-directory
+remove_name-requires-2-clause-directory c =
+    let s = c.requires.sound.state in
+    let stands = c.requires.sound.stands in
+    let m = c.args.m.now in
+    let to = step_of s.tree.nodes m.to m.name.now c.args.target (c.requires.target s stands) in
+    let d = removed_directory s m.from.at m.from.name.now m.to to.directory to.found in
+    let gone = c.remove_name.ensures.removed s s (begun s c.args.meta.now c.args.touched.now stands c.requires.empty) in
+    directory_here _ (remove_name s m.from.at m.from.name.now) (stands_of _ _ _ _ gone) m.to d.0 d.1
+
+pub add_name-requires-clause-sound : goal.add_name-requires-clause-sound
+add_name-requires-clause-sound c = sound_of _ _ (stands_of _ _ _ _ (gone_of c c.requires.sound.state c.requires.sound.stands))
+
+pub add_name-requires-clause-new : goal.add_name-requires-clause-new
+add_name-requires-clause-new c =
+    let s = c.requires.sound.state in
+    let stands = c.requires.sound.stands in
+    let m = c.args.m.now in
+    let to = step_of s.tree.nodes m.to m.name.now c.args.target (c.requires.target s stands) in
+    let removed = remove_name s m.from.at m.from.name.now in
+    let d = removed_directory s m.from.at m.from.name.now m.to to.directory to.found in
+    new_of _ (remove_name removed m.to m.name.now) (stands_of _ _ _ _ (gone_of c s stands)) m.to m.name.now (removed_name removed m.to m.name.now d.0 d.1)
+
+module _ (c : goal.After-drop_name-arg-in-Ok-1) (s : State) (stands : Stands c.args.meta.now s) where
+  abbrev clear : State
+  clear = remove_name (remove_name s c.args.m.now.from.at c.args.m.now.from.name.now) c.args.m.now.to c.args.m.now.name.now
+
+  abbrev edited : Maybe State
+  edited = add_name clear c.args.m.now.to c.args.m.now.name.now c.args.m.now.from.ino
+
+  added : IsNew s edited c.add_name.new.meta c.add_name.new.touched
+  added = edited_to s edited _ _ (c.in-Ok.ensures.added s clear
+      (c.remove_name-2.ensures.removed s (remove_name s c.args.m.now.from.at c.args.m.now.from.name.now) (c.remove_name.ensures.removed s s (begun s c.args.meta.now c.args.touched.now stands c.requires.empty))))
+
+  -- what is replaced is still there
+  still : (old : Node) → map.get s.tree.nodes c.args.target ≡ Some old → map.get added.new.tree.nodes c.args.target ≡ Some old
+  still old found =
+      added_other clear c.args.m.now.to c.args.target c.args.m.now.name.now c.args.m.now.from.ino added.new c.requires.not_to added.is
+      ∙ removed_other (remove_name s c.args.m.now.from.at c.args.m.now.from.name.now) c.args.m.now.to c.args.m.now.name.now c.args.target c.requires.not_to
+      ∙ removed_other s c.args.m.now.from.at c.args.m.now.from.name.now c.args.target c.requires.not_from ∙ found
+
+pub drop_name-requires-clause-sound : goal.drop_name-requires-clause-sound
+drop_name-requires-clause-sound c =
+    let e = added c c.requires.sound.state c.requires.sound.stands in sound_of _ _ (stands_of _ _ _ _ e.gone)
+
+pub drop_name-requires-clause-used : goal.drop_name-requires-clause-used
+drop_name-requires-clause-used c =
+    let s = c.requires.sound.state in
+    let stands = c.requires.sound.stands in
+    let e = added c s stands in
+    let old = used_node c.args.meta.now s stands c.args.target c.requires.target_used in
+    node_used _ e.new (stands_of _ _ _ _ e.gone) c.args.target old.0 (still c s stands old.0 old.1)
+
+pub returns-in-Ok-clause-done : goal.returns-in-Ok-clause-done
+returns-in-Ok-clause-done c = λ s node old stands found there.
+    let m = c.args.m.now in
+    let removed = remove_name (remove_name s m.from.at m.from.name.now) m.to m.name.now in
+    let to = step_of s.tree.nodes m.to m.name.now c.args.target (c.requires.target s stands) in
+    let e = edited_to s (add_name removed m.to m.name.now m.from.ino) _ _ (c.in-Ok.ensures.added s removed
+    (c.remove_name-2.ensures.removed s (remove_name s m.from.at m.from.name.now) (c.remove_name.ensures.removed s s (begun s c.args.meta.now c.args.touched.now stands c.requires.empty)))) in
+    let still_there : map.get e.new.tree.nodes c.args.target ≡ Some old =
+    added_other removed m.to c.args.target m.name.now m.from.ino e.new c.requires.not_to e.is
+    ∙ removed_other (remove_name s m.from.at m.from.name.now) m.to m.name.now c.args.target c.requires.not_to
+    ∙ removed_other s m.from.at m.from.name.now c.args.target c.requires.not_from ∙ there in
+    let swapped = added_unnamed s m.from.at m.from.name.now m.to m.name.now m.from.ino c.args.place c.args.target old to.directory stands.laid_out (λ same. c.requires.not_to (sym same)) to.found to.entry in
+    done s (unnamed e.new c.args.place c.args.target old) (put_over s c.args.place (move_of m node) c.args.target old) _ _
+    (ap (λ (x : Maybe State). x >>= (λ moved. Ok (fine moved))) (swapped ∙ ap (λ (x : Maybe State). x >>= (λ more. Ok (unnamed more c.args.place c.args.target old))) e.is))
+    (c.drop_name.ensures.unnamed s e.new old e.gone still_there)
+
+pub put_back-requires : goal.put_back-requires
+put_back-requires c =
+    let s = c.requires.sound.state in
+    let stands = c.requires.sound.stands in
+    let m = c.args.m.now in
+    let to = step_of s.tree.nodes m.to m.name.now c.args.target (c.requires.target s stands) in
+    let removed = remove_name s m.from.at m.from.name.now in
+    let d = removed_directory s m.from.at m.from.name.now m.to to.directory to.found in
+    let e = removed_directory removed m.to m.name.now m.to d.0 d.1 in
+    let gone = c.remove_name-2.ensures.removed s removed (c.remove_name.ensures.removed s s (begun s c.args.meta.now c.args.touched.now stands c.requires.empty)) in
+    let here = directory_here _ (remove_name removed m.to m.name.now) (stands_of _ _ _ _ gone) m.to e.0 e.1 in
+    (here.0, c.in-Err.ensures.unchanged.directories m.to ∙ here.1)
+
+pub put_back-requires-in-Err : goal.put_back-requires-in-Err
+put_back-requires-in-Err c =
+    let s = c.requires.sound.state in
+    let stands = c.requires.sound.stands in
+    let m = c.args.m.now in
+    let from = step_of s.tree.nodes m.from.at m.from.name.now m.from.ino (c.requires.entry s stands) in
+    let removed = remove_name s m.from.at m.from.name.now in
+    let d = removed_directory s m.from.at m.from.name.now m.from.at from.directory from.found in
+    let e = removed_directory removed m.to m.name.now m.from.at d.0 d.1 in
+    let gone = c.remove_name-2.ensures.removed s removed (c.remove_name.ensures.removed s s (begun s c.args.meta.now c.args.touched.now stands c.requires.empty)) in
+    let here = directory_here _ (remove_name removed m.to m.name.now) (stands_of _ _ _ _ gone) m.from.at e.0 e.1 in
+    there_still c.put_back.new.meta c.add_name.new.meta m.from.at m.to here.0 c.in_ok-before_to.before_to c.put_back.ensures.here c.put_back.ensures.others (c.in-Err.ensures.unchanged.directories m.from.at ∙ here.1)
+
+unchanged : (c : goal.After-refused) → IsUnchanged c.args.meta.now c.put_back-in-Err.new.meta
+unchanged c =
+    back_twice c.args.meta.now c.remove_name.new.meta c.remove_name-2.new.meta c.add_name.new.meta c.put_back.new.meta c.put_back-in-Err.new.meta c.args.m.now.from.at c.args.m.now.to c.in_ok-before_from.before_from c.in_ok-before_to.before_to
+    (record { inodes = c.remove_name.ensures.inodes; others = c.remove_name.ensures.others; free = c.remove_name.ensures.free; first = c.remove_name.ensures.first })
+    (record { inodes = c.remove_name-2.ensures.inodes; others = c.remove_name-2.ensures.others; free = c.remove_name-2.ensures.free; first = c.remove_name-2.ensures.first })
+    c.in-Err.ensures.unchanged
+    (record { inodes = c.put_back.ensures.inodes; others = c.put_back.ensures.others; free = c.put_back.ensures.free; first = c.put_back.ensures.first })
+    (record { inodes = c.put_back-in-Err.ensures.inodes; others = c.put_back-in-Err.ensures.others; free = c.put_back-in-Err.ensures.free; first = c.put_back-in-Err.ensures.first })
+    c.in_ok-before_from.ensures c.in_ok-before_to.ensures c.put_back.ensures.here c.put_back-in-Err.ensures.here
+
+pub returns-in-Err-clause-done : goal.returns-in-Err-clause-done
+returns-in-Err-clause-done c = λ s node old stands found there.
+    let m = c.args.m.now in
+    let removed = remove_name (remove_name s m.from.at m.from.name.now) m.to m.name.now in
+    let to = step_of s.tree.nodes m.to m.name.now c.args.target (c.requires.target s stands) in
+    let gone = c.remove_name-2.ensures.removed s (remove_name s m.from.at m.from.name.now) (c.remove_name.ensures.removed s s (begun s c.args.meta.now c.args.touched.now stands c.requires.empty)) in
+    let swapped = added_unnamed s m.from.at m.from.name.now m.to m.name.now m.from.ino c.args.place c.args.target old to.directory stands.laid_out (λ same. c.requires.not_to (sym same)) to.found to.entry in
+    refusal_settled s (put_over s c.args.place (move_of m node) c.args.target old) _ _ (add_name removed m.to m.name.now m.from.ino) c.in-Err.refusal c.refused.result
+    (unchanged_stands c.args.meta.now _ s (unchanged c) stands) c.clear.ensures
+    (λ why is. ap (λ (x : Maybe State). x >>= (λ moved. Ok (fine moved))) (swapped ∙ ap (λ (x : Maybe State). x >>= (λ more. Ok (unnamed more c.args.place c.args.target old))) is))
+    (c.in-Err.ensures.refused removed (stands_of _ _ _ _ gone)) c.refused.ensures
+
+pub returns-in-Err-clause-short : goal.returns-in-Err-clause-short
+returns-in-Err-clause-short c =
+    let s = c.requires.sound.state in
+    let gone = c.remove_name-2.ensures.removed s _ (c.remove_name.ensures.removed s s (begun s c.args.meta.now c.args.touched.now c.requires.sound.stands c.requires.empty)) in
+    short_refusal c.in-Err.refusal c.refused.result _ c.refused.ensures (c.in-Err.ensures.refused _ (stands_of _ _ _ _ gone))
+
+pub returns-in-Err-clause-unchanged : goal.returns-in-Err-clause-unchanged
+returns-in-Err-clause-unchanged c = on_err c.refused.result (unchanged c)
