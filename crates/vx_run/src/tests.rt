@@ -15,8 +15,7 @@ const ROOM: u64 = 8_000;
 /// The operations of a format.
 const FORMAT: u64 = 70;
 
-const EXAMPLE: &[u8] =
-    b"sessions 1\n0 create /a 644\n0 list /\n0 create /a 600\n0 stat /\n";
+const EXAMPLE: &[u8] = b"sessions 1\n0 create /a 644\n0 list /\n0 create /a 600\n0 stat /\n";
 
 const ONE_CREATE: &[u8] = b"sessions 1\n0 create /a 644\n0 list /\n";
 
@@ -320,7 +319,9 @@ fn the_log_fills_and_wraps(rt: HostRuntime) -> Result<(), Fail> {
     let seen = run_script(&rt, alloc, &script, SECTORS, &[])?;
     assert_eq!(rt; seen.status, 0);
     assert!(rt; releases(&seen.history));
-    assert!(rt; seen.out.as_slice().ends_with(b"0 599 ok 3\n0 600 ok\ndone calls=600 moves=0 from=0 to=0\n"));
+    assert!(rt;
+        seen.out.as_slice().ends_with(b"0 599 ok 3\n0 600 ok\ndone calls=600 moves=0 from=0 to=0\n")
+    );
     assert_eq!(rt; sector(seen.dev.image(), 0)[28], 1);
     let head = sector(seen.dev.image(), 2);
     assert_eq!(rt; number(&head, 16, 8), number(&head, 24, 8));
@@ -338,7 +339,11 @@ fn blocks_are_freed_and_used_again(rt: HostRuntime) -> Result<(), Fail> {
     let seen = run_script(&rt, alloc, &script, SECTORS, &[])?;
     assert_eq!(rt; seen.status, 0);
     assert!(rt; releases(&seen.history));
-    assert!(rt; seen.out.as_slice().ends_with(b"0 477 ok 3\n0 478 ok 4\n0 479 ok\n0 480 ok\ndone calls=480 moves=0 from=0 to=0\n"));
+    assert!(rt;
+        seen.out.as_slice().ends_with(
+            b"0 477 ok 3\n0 478 ok 4\n0 479 ok\n0 480 ok\ndone calls=480 moves=0 from=0 to=0\n"
+        )
+    );
     Ok(())
 }
 

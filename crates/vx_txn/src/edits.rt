@@ -14,7 +14,6 @@ ghost use Rattle.vx_txn.specs.Edits.{IsEdited, IsRefused, IsMade, IsFullOf, HasA
 ghost use Rattle.vx_txn.specs.Metas.{Stands, IsSound, IsUnchanged, directory_of};
 
 use crate::directory::Directory;
-use vx_model::edits::edit_laws;
 use crate::meta::Meta;
 use crate::slots;
 use crate::touched::Touched;
@@ -23,6 +22,7 @@ use vx_alloc::FreeMap;
 use vx_base::{Block, FileKind, Ino, Name, Refusal};
 use vx_dir::DirRefusal;
 use vx_inode::MakeRefusal;
+use vx_model::edits::edit_laws;
 
 /// The length of a file's first extent, in blocks.
 const FIRST_EXTENT: u32 = 8;
