@@ -1,6 +1,6 @@
 -- What the metadata say of blocks and inodes.
-use Rattle.std.proofs.Common.{◌≡◌, ◌≢◌, ℕ, zero, suc, ◌+◌, ◌-◌, ◌*◌, ◌%◌, ◌<◌, ◌≤◌, Bool, true, false, cond, not, ◌&&◌, List, [], ◌∷◌, ◌++◌, map, length, Option, Some, None, refl, sym, ◌∙◌, ap, subst, arith, inl, inr, get_or, replicate}
-use Rattle.std.specs.Prelude.{◌⊎◌, ◌||◌, is_none, is_some, nat_lt, nat_le}
+use Rattle.std.proofs.Common.{◌≡◌, ◌≢◌, ℕ, zero, suc, ◌+◌, ◌-◌, ◌*◌, ◌%◌, ◌<◌, ◌≤◌, Bool, true, false, cond, not, ◌&&◌, List, [], ◌∷◌, ◌++◌, map, length, Option, Some, None, refl, sym, ◌∙◌, ap, subst, arith, inl, inr, get_or, replicate, lit<, lit≤}
+use Rattle.std.specs.Prelude.{Result, Ok, Err, IfOk, OnErr, ◌⊎◌, ◌||◌, is_none, is_some, nat_lt, nat_le}
 use Rattle.std.specs.Option.{option_map}
 use Rattle.std.specs.FinMap as map
 use Rattle.std.specs.Ordering.{nat_cmp}
@@ -18,15 +18,20 @@ use Rattle.vx_dir.specs.Sizes.{Entries}
 use Rattle.vx_inode.specs.Tables.{Table, inode_at}
 use Rattle.vx_layout.specs.Places.{is_data}
 use Rattle.vx_model.specs.Contents.{inode_value, inode_for}
-use Rattle.vx_model.specs.LaidOut.{IsLaidOut}
+use Rattle.vx_model.specs.LaidOut.{IsLaidOut, IsHeld, IsDirectoryNode}
 use Rattle.vx_model.specs.Layout.{Layout, DirectoryBlock, Claim, volume, blocks_at, claim_of, is_free, kept_pending}
 use Rattle.vx_model.specs.Layout as layout
-use Rattle.vx_model.specs.Legal.{with_released}
-use Rattle.vx_model.specs.State.{State, fresh}
+use Rattle.vx_model.specs.Legal.{with_released, IfThere}
+use Rattle.vx_model.specs.State.{State, Done, fresh}
 use Rattle.vx_model.specs.Tree.{Node, Nodes, Directory, IsFile, IsDirectory, new_directory, no_attrs}
 use Rattle.vx_txn.specs.Directories.{DirectoryValue, blocks_in, directory_at}
 use Rattle.vx_txn.specs.Edits.{empty_directory, one_block}
-use Rattle.vx_txn.specs.Metas.{HasDirectory, directory_of, IsStateOf, Stands}
+use Rattle.vx_txn.specs.Metas.{HasDirectory, directory_of, IsStateOf, Stands, IsSound, IsUnchanged}
+use Rattle.vx_txn.specs.Calls.{IsDone}
+use Rattle.vx_model.specs.Touching.{Touched}
+use Rattle.vx_base.specs.declared.reply.Reply.{Reply}
+use Rattle.std.specs.declared.alloc.AllocError.{AllocError}
+use Rattle.vx_txn.proofs.Changes.{unchanged_stands}
 use Rattle.vx_txn.specs.Values.{value_by}
 use Rattle.vx_txn.specs.declared.meta.Meta.{Meta}
 use Rattle.vx_txn.proofs.Claims.{unclaimed, none_below, free_is, same_claims, owner}
@@ -242,3 +247,34 @@ module _ (m : Meta) (log_blocks : ℕ) (inodes : m.inodes ≡ record { units = 1
     places = ap (λ (f : FreeMapView). length f.pending) free ∙ length-replicate {A = Option ℕ} (4096 * 1) None ∙ ap (λ (f : FreeMapView). 4096 * f.units) (sym free);
     limit = refl;
   }
+
+-- ---- a state of which an image reads as the tree
+
+held_fresh : (log_blocks n : ℕ) → IsHeld (fresh log_blocks 1).layout n (map.get (fresh log_blocks 1).tree.nodes n)
+held_fresh log_blocks n = elim (cases_eq n 2) [
+  | inl here ↦ subst (λ (x : ℕ). IsHeld (fresh log_blocks 1).layout x (map.get (fresh log_blocks 1).tree.nodes x)) (sym here)
+      (subst (λ (o : Option Node). IsHeld (fresh log_blocks 1).layout 2 o) (sym (at_key map.empty 2 (new_directory 493))) ((lit≤ tt, refl), lit≤ tt, lit< tt))
+  | inr other ↦ subst (λ (o : Option Node). IsHeld (fresh log_blocks 1).layout n o) (sym (at_other map.empty 2 (new_directory 493) n other ∙ map.get-empty nat_cmp n)) refl
+]
+
+pub fresh_laid_out : (log_blocks : ℕ) → log_blocks ≤ 2048 → IsLaidOut (fresh log_blocks 1)
+fresh_laid_out log_blocks few = record {
+  nodes = held_fresh log_blocks;
+  blocks = λ n. tt;
+  once = λ n m b has other. absurd (cc);
+  not_pending = λ n b has. refl;
+  has_root = subst (λ (o : Option Node). IfThere o IsDirectoryNode) (sym (at_key map.empty 2 (new_directory 493))) tt;
+  units = lit< tt;
+  units_limit = lit≤ tt;
+  log_blocks = few;
+  limit = lit≤ tt;
+  rest = refl;
+}
+
+sound_by : (s : State) (o : Option Done) (k : Meta) (v : Touched) (reply : Reply) → IfThere o (λ done. IsDone s done k v reply) → IsSound k
+sound_by s None k v reply done = absurd done
+sound_by s (Some d) k v reply done = record { state = d.state; stands = record { laid_out = done.gone.laid_out; is = done.gone.state } }
+
+pub still_sound : (m k : Meta) (s : State) (o : Option Done) (v : Touched) (r : Result (Reply × Reply) AllocError) → Stands m s → IfOk r (λ replies. IfThere o (λ done. IsDone s done k v replies.0)) → OnErr r (IsUnchanged m k) → IsSound k
+still_sound m k s o v (Ok replies) is done same = sound_by s o k v replies.0 done
+still_sound m k s o v (Err e) is done same = record { state = s; stands = unchanged_stands m k s same is }

@@ -5,17 +5,16 @@ use Rattle.std.proofs.lemmas.Bool.{ne_eqb, eq-eqb, eqb-true, cases_eq, false_fro
 use Rattle.std.proofs.lemmas.Option.{none-some}
 use Rattle.std.proofs.lemmas.List.{length-map}
 use Rattle.std.specs.Cmp.Lexicographic.{slice_cmp}
-use Rattle.std.specs.Ordering.{nat_cmp, eq_by_cmp, is_eq}
+use Rattle.std.specs.Ordering.{nat_cmp, is_eq}
 use Rattle.std.specs.Cmp.{nat_cmp_total, tied_itself}
 use Rattle.std.specs.FinMap as map
-use Rattle.vx_base.specs.declared.refusal.Refusal.{Refusal}
 use Rattle.vx_base.specs.declared.refusal.Refusal.TheVariants as no
 use Rattle.vx_base.specs.declared.inode.DirEntry.{DirEntry}
 use Rattle.vx_base.specs.Paths.{FileName}
 use Rattle.vx_base.proofs.Maps.{apart, at_key, at_other, put_twice}
 use Rattle.vx_model.specs.Outcome.{Maybe, unless, need, ◌>>=◌}
 use Rattle.vx_model.specs.Tree.{Node, Nodes, Entries, File, Directory, IsFile, IsDirectory}
-use Rattle.vx_model.specs.Layout.{Layout, DirectoryBlock, blocks_at, without_name as block_without, with_blocks, with_entry, with_new_block, filled_or_new, add_entry, new_block, pended, freed}
+use Rattle.vx_model.specs.Layout.{Layout, DirectoryBlock, blocks_at, without_name as block_without, with_blocks, with_entry, filled_or_new, add_entry, new_block, pended, freed}
 use Rattle.vx_model.specs.State.{State}
 use Rattle.vx_model.specs.Walks.{as_directory, directory_at}
 use Rattle.vx_model.specs.Removing.{unlinked}

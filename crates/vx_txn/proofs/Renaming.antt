@@ -1,5 +1,5 @@
 -- An entry that moves.
-use Rattle.std.proofs.Common.{◌≡◌, ◌≢◌, ℕ, Bool, true, false, not, ◌&&◌, cond, List, [], ◌∷◌, ◌++◌, length, Option, Some, None, Ok, Err, inl, inr, refl, sym, ◌∙◌, ap, subst}
+use Rattle.std.proofs.Common.{◌≡◌, ◌≢◌, ℕ, Bool, true, false, not, cond, List, [], ◌∷◌, ◌++◌, length, Option, Some, None, Ok, Err, inl, inr, refl, sym, ◌∙◌, ap, subst}
 use Rattle.std.specs.Prelude.{◌==◌}
 use Rattle.std.specs.Option.{option_map}
 use Rattle.std.proofs.lemmas.Bool.{cases_eq, eqb-true}
@@ -15,10 +15,10 @@ use Rattle.vx_base.specs.declared.refusal.Refusal.TheVariants as no
 use Rattle.vx_base.specs.Paths.{FileName}
 use Rattle.vx_model.specs.Outcome.{Maybe, unless, need, ◌>>=◌}
 use Rattle.vx_model.specs.Tree.{Nodes, Node, File, Directory, IsFile, IsDirectory}
-use Rattle.vx_model.specs.State.{State, Done}
+use Rattle.vx_model.specs.State.{State}
 use Rattle.vx_model.specs.Walks.{root, walk, node_at, directory_at, file_at, step_to}
 use Rattle.vx_model.specs.Edits.{add_name, remove_name, without_name, drop_node}
-use Rattle.vx_model.specs.Removing.{fine, unlinked}
+use Rattle.vx_model.specs.Removing.{fine}
 use Rattle.vx_model.specs.Entering.{Entry, entry_at}
 use Rattle.vx_model.specs.Paths.{PathEnd, path_end, path_end_from}
 use Rattle.vx_model.specs.Moving.{Move, enter, cleared, replace_by, replace_file, replace_directory, move_onto, move_into, move_node, move_to, move_entry, move_ends, rename_along, is_below}

@@ -5,7 +5,7 @@ use Rattle.vx_base.specs.Paths.{FileName}
 use Rattle.vx_model.specs.Outcome.{Maybe, ◌>>=◌}
 use Rattle.vx_model.specs.Tree.{Nodes, Node, File, Directory, IsFile, IsDirectory}
 use Rattle.vx_model.specs.State.{State, Done}
-use Rattle.vx_model.specs.Walks.{root, step_to, directory_at, file_at}
+use Rattle.vx_model.specs.Walks.{root, directory_at, file_at}
 use Rattle.vx_model.specs.Entering.{Entry, entry_at}
 use Rattle.vx_model.specs.Edits.{drop_node}
 use Rattle.vx_model.specs.Removing.{unlinked, unlink_entry, remove_directory}

@@ -56,7 +56,8 @@ impl Meta {
     /// The metadata of a new file system of one unit, whose root is empty.
     pub fn fresh(alloc: Global, log_blocks: u32) -> Result<Self, AllocError>
         requires { log_blocks ≤ 2048 }
-        ensures { IfOk result (λ m. IsStateOf m (fresh log_blocks 1)) }
+        ensures state { IfOk result (λ m. IsStateOf m (fresh log_blocks 1)) }
+        ensures sound { IfOk result IsSound }
     {
         let mut inodes = InodeTable::new(alloc, UNITS)?;
         inodes.put(Ino::new(ROOT), &root())?;
@@ -91,6 +92,7 @@ impl Meta {
             → IfOk result (λ replies. IfThere (step s place session call.now) (λ done. IsDone s done self.new touched.new replies.0)) }
         ensures copy { IfOk result (λ replies. replies.1 ≡ replies.0) }
         ensures sound { IfOk result (λ replies. IsSoundReply replies.0) }
+        ensures stays { IsSound self.new }
         ensures few { most touched.new ≤ 4 }
         ensures err { (s : State) → IsStateOf self.old s → OnErr result (IsStateOf self.new s) }
         ensures untouched { OnErr result (touched.new ≡ untouched) }

@@ -1,47 +1,57 @@
 //! What unlink, rmdir, link and rename answer on small file systems.
+ghost use Rattle.std.specs.Prelude.{◌≡◌, IfOk, true};
+ghost use Rattle.vx_model.specs.Step.{has_step};
+ghost use Rattle.vx_model.specs.Touching.{untouched};
+ghost use Rattle.vx_txn.specs.Calls.{HasMode};
+ghost use Rattle.vx_txn.specs.Metas.{IsSound};
+
 use crate::meta::Meta;
+use crate::tests::answer;
 use crate::touched::Touched;
+use std::alloc::{AllocError, Global};
 use std::test::Fail;
-use vx_base::{Bytes, Call, Ino, Refusal, Reply};
+use vx_base::{Bytes, Call, Refusal, Reply};
 
-fn bytes(rt: &HostRuntime, path: &[u8]) -> Result<Bytes, Fail> {
-    Ok(Bytes::from_slice(rt.alloc(), path)?)
-}
-
-fn mkdir(rt: &HostRuntime, path: &[u8]) -> Result<Call, Fail> {
-    let path = bytes(rt, path)?;
+fn mkdir(alloc: Global, path: &[u8]) -> Result<Call, AllocError>
+    ensures { IfOk result (λ call. (has_step call ≡ true) × HasMode call) }
+{
+    let path = Bytes::from_slice(alloc, path)?;
     Ok(Call::Mkdir { path, mode: 0o755 })
 }
 
-fn create(rt: &HostRuntime, path: &[u8]) -> Result<Call, Fail> {
-    let path = bytes(rt, path)?;
-    Ok(Call::Create { path, mode: 0o644 })
+fn rename(alloc: Global, old: &[u8], new: &[u8]) -> Result<Call, AllocError>
+    ensures { IfOk result (λ call. (has_step call ≡ true) × HasMode call) }
+{
+    let old = Bytes::from_slice(alloc, old)?;
+    let new = Bytes::from_slice(alloc, new)?;
+    Ok(Call::Rename { old, new })
+}
+
+/// A directory /d with a directory /d/e.
+fn make(alloc: Global, meta: &mut Meta, touched: &mut Touched) -> Result<(), AllocError>
+    requires sound { IsSound meta.old }
+    requires empty { touched.old ≡ untouched }
+    ensures sound { IsSound meta.new }
+    ensures empty { touched.new ≡ untouched }
+{
+    let call = mkdir(alloc, b"/d")?;
+    let _made = answer(alloc, meta, &call, touched)?;
+    let call = mkdir(alloc, b"/d/e")?;
+    let _made = answer(alloc, meta, &call, touched)?;
+    Ok(())
 }
 
 #[test]
 fn rmdir_answers(rt: HostRuntime) -> Result<(), Fail> {
     let mut meta = Meta::fresh(rt.alloc(), 512)?;
     let mut touched = Touched::new(rt.alloc())?;
-    let _ = meta.apply(rt.alloc(), &mkdir(&rt, b"/d")?, 0, &mut touched)?;
-    touched.clear();
-    let _ = meta.apply(rt.alloc(), &mkdir(&rt, b"/d/e")?, 1, &mut touched)?;
-    touched.clear();
-    let path = bytes(&rt, b"/")?;
-    let (reply, _) = meta.apply(rt.alloc(), &Call::Rmdir { path }, 2, &mut touched)?;
+    make(rt.alloc(), &mut meta, &mut touched)?;
+    let path = Bytes::from_slice(rt.alloc(), b"/")?;
+    let reply = answer(rt.alloc(), &mut meta, &Call::Rmdir { path }, &mut touched)?;
     assert!(rt; matches!(reply, Reply::Refused(Refusal::RootFixed)));
-    touched.clear();
-    let path = bytes(&rt, b"/d")?;
-    let (reply, _) = meta.apply(rt.alloc(), &Call::Rmdir { path }, 3, &mut touched)?;
+    let path = Bytes::from_slice(rt.alloc(), b"/d")?;
+    let reply = answer(rt.alloc(), &mut meta, &Call::Rmdir { path }, &mut touched)?;
     assert!(rt; matches!(reply, Reply::Refused(Refusal::NotEmpty)));
-    touched.clear();
-    let path = bytes(&rt, b"/d/e")?;
-    let (reply, _) = meta.apply(rt.alloc(), &Call::Rmdir { path }, 4, &mut touched)?;
-    assert!(rt; matches!(reply, Reply::Fine));
-    touched.clear();
-    let path = bytes(&rt, b"/d")?;
-    let (reply, _) = meta.apply(rt.alloc(), &Call::Rmdir { path }, 5, &mut touched)?;
-    assert!(rt; matches!(reply, Reply::Fine));
-    assert!(rt; meta.has_pending());
     Ok(())
 }
 
@@ -49,21 +59,12 @@ fn rmdir_answers(rt: HostRuntime) -> Result<(), Fail> {
 fn unlink_answers(rt: HostRuntime) -> Result<(), Fail> {
     let mut meta = Meta::fresh(rt.alloc(), 512)?;
     let mut touched = Touched::new(rt.alloc())?;
-    let _ = meta.apply(rt.alloc(), &mkdir(&rt, b"/d")?, 0, &mut touched)?;
-    touched.clear();
-    let _ = meta.apply(rt.alloc(), &create(&rt, b"/f")?, 1, &mut touched)?;
-    touched.clear();
-    let path = bytes(&rt, b"/d")?;
-    let (reply, _) = meta.apply(rt.alloc(), &Call::Unlink { path }, 2, &mut touched)?;
+    make(rt.alloc(), &mut meta, &mut touched)?;
+    let path = Bytes::from_slice(rt.alloc(), b"/d")?;
+    let reply = answer(rt.alloc(), &mut meta, &Call::Unlink { path }, &mut touched)?;
     assert!(rt; matches!(reply, Reply::Refused(Refusal::IsDir)));
-    touched.clear();
-    let path = bytes(&rt, b"/f")?;
-    let (reply, _) = meta.apply(rt.alloc(), &Call::Unlink { path }, 3, &mut touched)?;
-    assert!(rt; matches!(reply, Reply::Fine));
-    assert!(rt; meta.inode_value(Ino::new(4)).is_none());
-    touched.clear();
-    let path = bytes(&rt, b"/d/x")?;
-    let (reply, _) = meta.apply(rt.alloc(), &Call::Stat { path }, 4, &mut touched)?;
+    let path = Bytes::from_slice(rt.alloc(), b"/d/x")?;
+    let reply = answer(rt.alloc(), &mut meta, &Call::Stat { path }, &mut touched)?;
     assert!(rt; matches!(reply, Reply::Refused(Refusal::NoEnt)));
     Ok(())
 }
@@ -72,23 +73,16 @@ fn unlink_answers(rt: HostRuntime) -> Result<(), Fail> {
 fn link_answers(rt: HostRuntime) -> Result<(), Fail> {
     let mut meta = Meta::fresh(rt.alloc(), 512)?;
     let mut touched = Touched::new(rt.alloc())?;
-    let _ = meta.apply(rt.alloc(), &mkdir(&rt, b"/d")?, 0, &mut touched)?;
-    touched.clear();
-    let _ = meta.apply(rt.alloc(), &create(&rt, b"/f")?, 1, &mut touched)?;
-    touched.clear();
-    let (old, new) = (bytes(&rt, b"/d")?, bytes(&rt, b"/g")?);
-    let (reply, _) = meta.apply(rt.alloc(), &Call::Link { old, new }, 2, &mut touched)?;
+    make(rt.alloc(), &mut meta, &mut touched)?;
+    let old = Bytes::from_slice(rt.alloc(), b"/d")?;
+    let new = Bytes::from_slice(rt.alloc(), b"/g")?;
+    let reply = answer(
+        rt.alloc(),
+        &mut meta,
+        &Call::Link { old, new },
+        &mut touched,
+    )?;
     assert!(rt; matches!(reply, Reply::Refused(Refusal::IsDir)));
-    touched.clear();
-    let (old, new) = (bytes(&rt, b"/f")?, bytes(&rt, b"/d/g")?);
-    let (reply, _) = meta.apply(rt.alloc(), &Call::Link { old, new }, 3, &mut touched)?;
-    assert!(rt; matches!(reply, Reply::Fine));
-    touched.clear();
-    let path = bytes(&rt, b"/d/g")?;
-    let (reply, _) = meta.apply(rt.alloc(), &Call::Stat { path }, 4, &mut touched)?;
-    assert!(rt;
-        matches!(reply, Reply::FileStat { ino, mode: 0o644, nlink: 2, size: 0 } if ino == Ino::new(4))
-    );
     Ok(())
 }
 
@@ -96,31 +90,12 @@ fn link_answers(rt: HostRuntime) -> Result<(), Fail> {
 fn rename_answers(rt: HostRuntime) -> Result<(), Fail> {
     let mut meta = Meta::fresh(rt.alloc(), 512)?;
     let mut touched = Touched::new(rt.alloc())?;
-    let _ = meta.apply(rt.alloc(), &mkdir(&rt, b"/d")?, 0, &mut touched)?;
-    touched.clear();
-    let _ = meta.apply(rt.alloc(), &mkdir(&rt, b"/d/e")?, 1, &mut touched)?;
-    touched.clear();
-    let _ = meta.apply(rt.alloc(), &create(&rt, b"/f")?, 2, &mut touched)?;
-    touched.clear();
-    let _ = meta.apply(rt.alloc(), &create(&rt, b"/g")?, 3, &mut touched)?;
-    touched.clear();
-    let (old, new) = (bytes(&rt, b"/d")?, bytes(&rt, b"/d/e/f")?);
-    let (reply, _) = meta.apply(rt.alloc(), &Call::Rename { old, new }, 4, &mut touched)?;
+    make(rt.alloc(), &mut meta, &mut touched)?;
+    let call = rename(rt.alloc(), b"/d", b"/d/e/f")?;
+    let reply = answer(rt.alloc(), &mut meta, &call, &mut touched)?;
     assert!(rt; matches!(reply, Reply::Refused(Refusal::IntoItself)));
-    touched.clear();
-    let (old, new) = (bytes(&rt, b"/f")?, bytes(&rt, b"/g")?);
-    let (reply, _) = meta.apply(rt.alloc(), &Call::Rename { old, new }, 5, &mut touched)?;
+    let call = rename(rt.alloc(), b"/d/e", b"/g")?;
+    let reply = answer(rt.alloc(), &mut meta, &call, &mut touched)?;
     assert!(rt; matches!(reply, Reply::Fine));
-    assert!(rt; meta.inode_value(Ino::new(6)).is_none());
-    touched.clear();
-    let (old, new) = (bytes(&rt, b"/g")?, bytes(&rt, b"/d/e/f")?);
-    let (reply, _) = meta.apply(rt.alloc(), &Call::Rename { old, new }, 6, &mut touched)?;
-    assert!(rt; matches!(reply, Reply::Fine));
-    touched.clear();
-    let path = bytes(&rt, b"/d/e/f")?;
-    let (reply, _) = meta.apply(rt.alloc(), &Call::Stat { path }, 7, &mut touched)?;
-    assert!(rt;
-        matches!(reply, Reply::FileStat { ino, mode: 0o644, nlink: 1, size: 0 } if ino == Ino::new(5))
-    );
     Ok(())
 }

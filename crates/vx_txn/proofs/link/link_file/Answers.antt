@@ -1,4 +1,4 @@
-use Rattle.std.proofs.Common.{Option, Some, sym, ◌∙◌, ap, subst}
+use Rattle.std.proofs.Common.{Option, sym, ◌∙◌, ap, subst}
 use Rattle.std.specs.Prelude.{IfOk}
 use Rattle.vx_base.specs.declared.refusal.Refusal.TheVariants as no
 use Rattle.vx_model.specs.Outcome.{Maybe, need, ◌>>=◌}
@@ -7,7 +7,6 @@ use Rattle.vx_model.specs.State.{Done}
 use Rattle.vx_model.specs.Tree.{File}
 use Rattle.vx_model.specs.Linking.{link_inode, link_file, link_end, link_at}
 use Rattle.vx_txn.specs.Calls.{IsSettled}
-use Rattle.vx_txn.specs.Links.{link_to}
 use Rattle.vx_txn.proofs.Lookups.{refused, file_of, end_of}
 use Rattle.vx_txn.proofs.link.link_file.Goals as goal
 

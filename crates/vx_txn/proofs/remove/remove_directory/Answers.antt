@@ -1,14 +1,12 @@
-use Rattle.std.proofs.Common.{◌≡◌, ◌≢◌, ℕ, Some, Ok, false, true, sym, ◌∙◌, ap, subst, arith}
+use Rattle.std.proofs.Common.{◌≡◌, Ok, false, true, sym, ◌∙◌, ap, subst}
 use Rattle.std.proofs.lemmas.Bool.{ne_eqb, eq-eqb}
 use Rattle.std.specs.Prelude.{◌==◌}
 use Rattle.std.specs.FinMap as map
 use Rattle.vx_base.specs.declared.refusal.Refusal.TheVariants as no
 use Rattle.vx_dir.specs.Directories.{entry_count, IsKept as IsSoundDirectory}
 use Rattle.vx_model.specs.Outcome.{unless, ◌>>=◌}
-use Rattle.vx_model.specs.Tree.{Node, Directory, IsDirectory}
 use Rattle.vx_model.specs.Walks.{root}
 use Rattle.vx_model.specs.Edits.{remove_name, drop_node}
-use Rattle.vx_model.specs.State.{State, Done}
 use Rattle.vx_model.specs.Removing.{fine, remove_empty, remove_directory}
 use Rattle.vx_txn.specs.Removals.{entry_of}
 use Rattle.vx_txn.proofs.Lookups.{begun, stands_of, sound_of, refused, done, node_directory, directory_found, counted}

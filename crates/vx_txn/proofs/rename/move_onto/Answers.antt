@@ -1,12 +1,12 @@
-use Rattle.std.proofs.Common.{◌≡◌, Some, None, Ok, Err, true, false, sym, ◌∙◌, ap, subst}
-use Rattle.std.specs.Prelude.{◌==◌, IfOk}
+use Rattle.std.proofs.Common.{false, sym, ◌∙◌, ap, subst}
+use Rattle.std.specs.Prelude.{IfOk}
 use Rattle.std.specs.FinMap as map
 use Rattle.vx_base.specs.declared.kind.FileKind.{FileKind}
 use Rattle.vx_model.specs.Outcome.{Maybe}
 use Rattle.vx_model.specs.State.{Done}
 use Rattle.vx_model.specs.Moving.{move_onto}
 use Rattle.vx_txn.specs.Calls.{IsSettled}
-use Rattle.vx_txn.specs.Renames.{move_of, kind_of, replaceable}
+use Rattle.vx_txn.specs.Renames.{move_of, replaceable}
 use Rattle.vx_txn.proofs.Lookups.{refused, step_of, directory_found, directory_node, new_of}
 use Rattle.vx_txn.proofs.Renaming.{not_replaced_there, replaced, not_replaced, no_step, step_entry, kind_is, onto}
 use Rattle.vx_txn.proofs.rename.move_onto.Goals as goal

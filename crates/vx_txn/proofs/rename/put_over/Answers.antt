@@ -1,28 +1,17 @@
-use Rattle.std.proofs.Common.{◌≡◌, ◌≢◌, ℕ, Some, Ok, sym, ◌∙◌, ap, subst}
+use Rattle.std.proofs.Common.{◌≡◌, Some, Ok, sym, ◌∙◌, ap}
 use Rattle.std.specs.FinMap as map
 use Rattle.vx_model.specs.Outcome.{Maybe, ◌>>=◌}
-use Rattle.vx_model.specs.Tree.{Node, IsDirectory}
 use Rattle.vx_model.specs.State.{State}
 use Rattle.vx_model.specs.Edits.{add_name, remove_name}
 use Rattle.vx_model.specs.Removing.{fine}
-use Rattle.vx_txn.specs.Calls.{HasGone}
-use Rattle.vx_txn.specs.Metas.{Stands, IsUnchanged}
+use Rattle.vx_txn.specs.Metas.{IsUnchanged}
 use Rattle.vx_txn.specs.Removals.{unnamed}
 use Rattle.vx_txn.specs.Renames.{move_of, put_over}
-use Rattle.vx_txn.proofs.Lookups.{begun, stands_of, sound_of, done, edited_to, refusal_settled, used_node, node_used, step_of, directory_here, removed_other, added_other, new_of, IsNew}
+use Rattle.vx_txn.proofs.Lookups.{begun, stands_of, sound_of, done, edited_to, refusal_settled, used_node, node_used, step_of, directory_here, removed_other, added_other, new_of}
 use Rattle.vx_txn.proofs.Changes.{unchanged_stands}
 use Rattle.vx_txn.proofs.MakingLaws.{short_refusal, on_err}
 use Rattle.vx_txn.proofs.Renaming.{removed_directory, removed_name, added_unnamed, back_twice, there_still}
 use Rattle.vx_txn.proofs.rename.put_over.Goals as goal
-
--- the state without both names
-abbrev cleared_of : State → (c : goal.After-add_name-arg-4-1) → State
-cleared_of s c = remove_name (remove_name s c.args.m.now.from.at c.args.m.now.from.name.now) c.args.m.now.to c.args.m.now.name.now
-
-gone_of : (c : goal.After-add_name-arg-4-1) (s : State) → Stands c.args.meta.now s → HasGone s (cleared_of s c) c.remove_name-2.new.meta c.remove_name-2.new.touched
-gone_of c s stands =
-    c.remove_name-2.ensures.removed s (remove_name s c.args.m.now.from.at c.args.m.now.from.name.now)
-    (c.remove_name.ensures.removed s s (begun s c.args.meta.now c.args.touched.now stands c.requires.empty))
 
 pub remove_name-requires-2-clause-directory : goal.remove_name-requires-2-clause-directory
 remove_name-requires-2-clause-directory c =
@@ -35,7 +24,11 @@ remove_name-requires-2-clause-directory c =
     directory_here _ (remove_name s m.from.at m.from.name.now) (stands_of _ _ _ _ gone) m.to d.0 d.1
 
 pub add_name-requires-clause-sound : goal.add_name-requires-clause-sound
-add_name-requires-clause-sound c = sound_of _ _ (stands_of _ _ _ _ (gone_of c c.requires.sound.state c.requires.sound.stands))
+add_name-requires-clause-sound c =
+    let s = c.requires.sound.state in
+    let stands = c.requires.sound.stands in
+    let m = c.args.m.now in
+    sound_of _ _ (stands_of _ _ _ _ (c.remove_name-2.ensures.removed s (remove_name s m.from.at m.from.name.now) (c.remove_name.ensures.removed s s (begun s c.args.meta.now c.args.touched.now stands c.requires.empty))))
 
 pub add_name-requires-clause-new : goal.add_name-requires-clause-new
 add_name-requires-clause-new c =
@@ -45,37 +38,31 @@ add_name-requires-clause-new c =
     let to = step_of s.tree.nodes m.to m.name.now c.args.target (c.requires.target s stands) in
     let removed = remove_name s m.from.at m.from.name.now in
     let d = removed_directory s m.from.at m.from.name.now m.to to.directory to.found in
-    new_of _ (remove_name removed m.to m.name.now) (stands_of _ _ _ _ (gone_of c s stands)) m.to m.name.now (removed_name removed m.to m.name.now d.0 d.1)
-
-module _ (c : goal.After-drop_name-arg-in-Ok-1) (s : State) (stands : Stands c.args.meta.now s) where
-  abbrev clear : State
-  clear = remove_name (remove_name s c.args.m.now.from.at c.args.m.now.from.name.now) c.args.m.now.to c.args.m.now.name.now
-
-  abbrev edited : Maybe State
-  edited = add_name clear c.args.m.now.to c.args.m.now.name.now c.args.m.now.from.ino
-
-  added : IsNew s edited c.add_name.new.meta c.add_name.new.touched
-  added = edited_to s edited _ _ (c.in-Ok.ensures.added s clear
-      (c.remove_name-2.ensures.removed s (remove_name s c.args.m.now.from.at c.args.m.now.from.name.now) (c.remove_name.ensures.removed s s (begun s c.args.meta.now c.args.touched.now stands c.requires.empty))))
-
-  -- what is replaced is still there
-  still : (old : Node) → map.get s.tree.nodes c.args.target ≡ Some old → map.get added.new.tree.nodes c.args.target ≡ Some old
-  still old found =
-      added_other clear c.args.m.now.to c.args.target c.args.m.now.name.now c.args.m.now.from.ino added.new c.requires.not_to added.is
-      ∙ removed_other (remove_name s c.args.m.now.from.at c.args.m.now.from.name.now) c.args.m.now.to c.args.m.now.name.now c.args.target c.requires.not_to
-      ∙ removed_other s c.args.m.now.from.at c.args.m.now.from.name.now c.args.target c.requires.not_from ∙ found
+    new_of _ (remove_name removed m.to m.name.now) (stands_of _ _ _ _ (c.remove_name-2.ensures.removed s (remove_name s m.from.at m.from.name.now) (c.remove_name.ensures.removed s s (begun s c.args.meta.now c.args.touched.now stands c.requires.empty)))) m.to m.name.now (removed_name removed m.to m.name.now d.0 d.1)
 
 pub drop_name-requires-clause-sound : goal.drop_name-requires-clause-sound
 drop_name-requires-clause-sound c =
-    let e = added c c.requires.sound.state c.requires.sound.stands in sound_of _ _ (stands_of _ _ _ _ e.gone)
+    let s = c.requires.sound.state in
+    let stands = c.requires.sound.stands in
+    let m = c.args.m.now in
+    let removed = remove_name (remove_name s m.from.at m.from.name.now) m.to m.name.now in
+    let e = edited_to s (add_name removed m.to m.name.now m.from.ino) _ _ (c.in-Ok.ensures.added s removed
+    (c.remove_name-2.ensures.removed s (remove_name s m.from.at m.from.name.now) (c.remove_name.ensures.removed s s (begun s c.args.meta.now c.args.touched.now stands c.requires.empty)))) in
+    sound_of _ _ (stands_of _ _ _ _ e.gone)
 
 pub drop_name-requires-clause-used : goal.drop_name-requires-clause-used
 drop_name-requires-clause-used c =
     let s = c.requires.sound.state in
     let stands = c.requires.sound.stands in
-    let e = added c s stands in
+    let m = c.args.m.now in
+    let removed = remove_name (remove_name s m.from.at m.from.name.now) m.to m.name.now in
+    let e = edited_to s (add_name removed m.to m.name.now m.from.ino) _ _ (c.in-Ok.ensures.added s removed
+    (c.remove_name-2.ensures.removed s (remove_name s m.from.at m.from.name.now) (c.remove_name.ensures.removed s s (begun s c.args.meta.now c.args.touched.now stands c.requires.empty)))) in
     let old = used_node c.args.meta.now s stands c.args.target c.requires.target_used in
-    node_used _ e.new (stands_of _ _ _ _ e.gone) c.args.target old.0 (still c s stands old.0 old.1)
+    node_used _ e.new (stands_of _ _ _ _ e.gone) c.args.target old.0
+    (added_other removed m.to c.args.target m.name.now m.from.ino e.new c.requires.not_to e.is
+    ∙ removed_other (remove_name s m.from.at m.from.name.now) m.to m.name.now c.args.target c.requires.not_to
+    ∙ removed_other s m.from.at m.from.name.now c.args.target c.requires.not_from ∙ old.1)
 
 pub returns-in-Ok-clause-done : goal.returns-in-Ok-clause-done
 returns-in-Ok-clause-done c = λ s node old stands found there.

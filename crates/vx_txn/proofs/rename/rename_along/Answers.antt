@@ -1,4 +1,4 @@
-use Rattle.std.proofs.Common.{◌≡◌, ◌≢◌, ℕ, Bool, length, sym, ◌∙◌, ap, subst}
+use Rattle.std.proofs.Common.{◌≢◌, Bool, length, sym, ◌∙◌, ap, subst}
 use Rattle.std.specs.Prelude.{IfOk}
 use Rattle.std.proofs.lemmas.Bool.{both_ways, eq-eqb}
 use Rattle.vx_model.specs.Outcome.{Maybe}

@@ -5,8 +5,9 @@ use Rattle.vx_alloc.specs.FreeMaps.{all_free}
 use Rattle.vx_base.specs.declared.inode.Inode.{Inode}
 use Rattle.vx_dir.specs.Directories.{Directory, empty}
 use Rattle.vx_inode.specs.Tables.{Table, inode_at, with_inode}
+use Rattle.vx_model.specs.State.{fresh}
 use Rattle.vx_txn.specs.Directories.{DirectoryValue}
-use Rattle.vx_txn.proofs.MetaLaws.{fresh_is}
+use Rattle.vx_txn.proofs.MetaLaws.{fresh_is, fresh_laid_out}
 use Rattle.vx_txn.proofs.meta.Meta.fresh.Goals as goal
 
 abbrev slots_of : Directory → List ℕ → List (Option DirectoryValue)
@@ -15,8 +16,8 @@ slots_of names at = None ∷ None ∷ Some (record { names = names; at = at }) �
 pub put-requires-clause-unused : goal.put-requires-clause-unused
 put-requires-clause-unused c = ap (λ (t : Table). inode_at t c.new-2.result) c.in_ok-inodes.ensures ∙ map.get-empty nat_cmp c.new-2.result
 
-pub returns : goal.returns
-returns c =
+pub returns-clause-state : goal.returns-clause-state
+returns-clause-state c =
     fresh_is _ c.args.log_blocks
     (c.in_ok-put.ensures.ok ∙ ap (λ (t : Table). with_inode t c.new-2.result c.root.result) c.in_ok-inodes.ensures
     ∙ ap (λ (n : ℕ). with_inode (record { units = 1; inodes = map.empty }) n c.root.result) c.new-2.ensures ∙ ap (λ (i : Inode). with_inode (record { units = 1; inodes = map.empty }) 2 i) c.root.ensures)
@@ -27,3 +28,6 @@ returns c =
     ∙ ap (λ (a : List ℕ). slots_of (empty 1024 1) a) c.new-3.ensures.at)
     (c.in_ok-free.ensures ∙ ap (λ (n : ℕ). all_free n 4063 1) c.new-first.ensures)
     c.new-first.ensures
+
+pub returns-clause-sound : goal.returns-clause-sound
+returns-clause-sound c = record { state = fresh c.args.log_blocks 1; stands = record { laid_out = fresh_laid_out c.args.log_blocks c.requires; is = returns-clause-state c } }
