@@ -1,3 +1,5 @@
 pub mod Runs
 pub mod Cuts
 pub mod Adds
+pub mod Stretches
+pub mod Limits

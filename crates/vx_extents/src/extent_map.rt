@@ -1,13 +1,13 @@
 //! A file's pages, kept as maximal stretches.
-ghost use Rattle.std.specs.Prelude.{◌≡◌, ◌+◌, ◌-◌, ◌*◌, ◌/◌, ◌<◌, ◌≤◌, ◌^◌, max, OnOk, OnErr, None, [], suc, ◌==◌, length, filter, nat_lt, vec_capacity};
+ghost use Rattle.std.specs.Prelude.{◌≡◌, ◌+◌, ◌-◌, ◌*◌, ◌/◌, ◌<◌, ◌≤◌, ◌^◌, max, OnOk, OnErr, Some, None, [], suc, ◌==◌, length, slice_get, filter, nat_lt, vec_capacity};
 ghost use Rattle.vx_base.specs.declared.geom.Geom.{Geom};
-ghost use Rattle.vx_extents.specs.Extents.{extents_limit, chain_len, places, expand, AreMaximal, mapped_at, extent_count, cut_before, begun_before, add_answer, with_add, touches, touches_before, touches_after, same_kind, joined_at, added, IsStretch, AreStretches};
+ghost use Rattle.vx_extents.specs.Extents.{extents_limit, file_pages, stretches, chain_len, places, expand, AreMaximal, mapped_at, extent_count, cut_before, begun_before, add_answer, with_add, touches, touches_before, touches_after, same_kind, joined_at, added, IsStretch, AreStretches};
 
 use crate::stretch::Stretch;
 use std::alloc::{AllocError, Global};
 use std::marker::Model;
 use std::mem;
-use vx_base::{Block, Geom, Kind, Page};
+use vx_base::{Block, Extent, Geom, Kind, Page};
 
 /// The map would have more extents than it may have.
 #[derive(Clone, Copy, Debug, PartialEq, Eq)]
@@ -21,6 +21,8 @@ pub struct MapFull {
 pub struct ExtentMap {
     // The most extents that the file's map blocks have room for.
     limit: u32,
+    // How many pages the largest file has. Every page is below.
+    page_limit: u32,
     // How many pages can be added without further memory.
     reserved: u32,
     extents: Vec<Stretch>,
@@ -35,15 +37,15 @@ impl Model for ExtentMap {
 
     ghost coded = { coded_map };
 
-    ghost view = { λ a. record { pages = expand a.extents.items; reserved = a.reserved; limit = a.limit } };
+    ghost view = { λ a. record { pages = expand a.extents.items; reserved = a.reserved; limit = a.limit; page_limit = a.page_limit } };
 
-    ghost invariant = { λ a. IsKept a.extents.items a.reserved a.limit (vec_capacity a.extents) };
+    ghost invariant = { λ a. IsKept a.extents.items a.reserved a.limit a.page_limit (vec_capacity a.extents) };
 }
 
 impl ExtentMap {
     /// No page has a block, for layout 1.
     pub fn new(alloc: Global) -> Self
-        ensures { result ≡ record { pages = []; reserved = 0; limit = 4038 } }
+        ensures { result ≡ record { pages = []; reserved = 0; limit = 4038; page_limit = 65536 } }
     {
         ExtentMap::with(alloc, Geom::layout1())
     }
@@ -52,10 +54,12 @@ impl ExtentMap {
     pub fn with(alloc: Global, geom: Geom) -> Self
         requires block { 16 ≤ geom.block }
         requires maps { geom.maps * geom.block ≤ 65536 }
-        ensures { result ≡ record { pages = []; reserved = 0; limit = extents_limit geom } }
+        requires pages { file_pages geom < 2 ^ 32 }
+        ensures { result ≡ record { pages = []; reserved = 0; limit = extents_limit geom; page_limit = file_pages geom } }
     {
         ExtentMap {
             limit: 6 + geom.maps * places(&geom),
+            page_limit: (geom.limit / geom.block as u64) as u32,
             reserved: 0,
             extents: Vec::new(alloc),
         }
@@ -75,6 +79,20 @@ impl ExtentMap {
         self.extents.as_slice().len() as u32
     }
 
+    /// An extent by its place among them in page order, counted from 0.
+    pub fn stretch(&self, i: u32) -> Extent
+        requires { i < extent_count self.now.pages }
+        ensures { slice_get (stretches self.now.pages) i ≡ Some result }
+    {
+        let stretch = self.extents[i as usize];
+        Extent {
+            page: stretch.page,
+            start: stretch.start,
+            len: stretch.more + 1,
+            kind: stretch.kind,
+        }
+    }
+
     /// Takes the memory for so many pages to be added; unchanged where it is short.
     pub fn reserve(&mut self, n: u32) -> Result<(), AllocError>
         ensures ok { OnOk result (self.new ≡ record self.old { reserved = max self.old.reserved n }) }
@@ -87,6 +105,7 @@ impl ExtentMap {
 
     /// Gives the page a block, for which memory is there; unchanged where the map would have too many extents.
     pub fn add(&mut self, p: Page, b: Block, kind: Kind) -> Result<(), MapFull>
+        requires within { p < self.old.page_limit }
         requires absent { mapped_at self.old.pages p ≡ None }
         requires reserved { 1 ≤ self.old.reserved }
         ensures answer { result ≡ add_answer self.old p b kind }
