@@ -1,0 +1,4 @@
+pub mod Listed
+pub mod Kept
+pub mod Spare
+pub mod Facts

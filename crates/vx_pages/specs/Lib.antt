@@ -1,0 +1,4 @@
+pub mod Pages
+pub mod Slots
+pub mod Codes
+pub mod Lending

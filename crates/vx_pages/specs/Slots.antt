@@ -1,0 +1,62 @@
+-- The slots in which pages stand, most recent first.
+use Rattle.std.specs.Prelude.{◌≡◌, ℕ, ◌<◌, Bool, false, ◌&&◌, ◌+◌, nat_eq, nat_lt, if◌then◌else◌, not, List, [], ◌∷◌, length, Option, Some, None}
+use Rattle.std.specs.List.{AllByRecursion}
+use Rattle.vx_pages.specs.Pages.{Entry, is_page, is_from}
+
+-- whether a page stands in the slot, and which; of an unused slot the bytes stay
+pub record Slot : Type 0 where
+  pub used : Bool
+  pub entry : Entry
+
+abbrev pub holds : ℕ → ℕ → Slot → Bool
+holds ino page s = s.used && is_page ino page s.entry
+
+abbrev pub freed : ℕ → ℕ → Slot → Slot
+freed ino page s = record { used = s.used && not (is_from ino page s.entry); entry = s.entry }
+
+-- slots with their numbers
+abbrev pub Slots : Type 0
+Slots = List (ℕ × Slot)
+
+-- the pages that stand in them
+abbrev pub listed : Slots → List Entry
+listed [] = []
+listed (s ∷ ss) = if s.1.used then s.1.entry ∷ listed ss else listed ss
+
+-- the option has this number
+abbrev pub names : Option ℕ → ℕ → Bool
+names None n = false
+names (Some k) n = nat_eq k n
+
+-- the page stands in this slot and no other
+abbrev pub IsSlotOf : ℕ → ℕ → Option ℕ → Slots → Type 0
+IsSlotOf ino page k = AllByRecursion (λ s. names k s.0 ≡ holds ino page s.1)
+
+-- one of the slots with so many bytes
+abbrev pub IsSlot : ℕ → ℕ × Slot → Type 0
+IsSlot block s = (s.0 < 1024) × (length s.1.entry.bytes ≡ block)
+
+-- which slot a new page gets: the first unused one, or else the last unchanged one, or else this
+abbrev pub slot_for_new : Option ℕ → Slots → Option ℕ
+slot_for_new last [] = last
+slot_for_new last (s ∷ ss) = if s.1.used then slot_for_new (if s.1.entry.changed then last else Some s.0) ss else Some s.0
+
+abbrev pub changed_slots : Slots → ℕ
+changed_slots [] = 0
+changed_slots (s ∷ ss) = (if s.1.used && s.1.entry.changed then 1 else 0) + changed_slots ss
+
+-- the last page that is changed, or else this
+abbrev pub last_changed_slot : Option (ℕ × ℕ) → Slots → Option (ℕ × ℕ)
+last_changed_slot last [] = last
+last_changed_slot last (s ∷ ss) = last_changed_slot (if s.1.used && s.1.entry.changed then Some (s.1.entry.ino, s.1.entry.page) else last) ss
+
+-- the file's pages from this one on are dropped from the slots with lower numbers
+abbrev pub freed_below : ℕ → ℕ → ℕ → Slots → Slots
+freed_below n ino page [] = []
+freed_below n ino page (s ∷ ss) = (s.0, if nat_lt s.0 n then freed ino page s.1 else s.1) ∷ freed_below n ino page ss
+
+-- all slots are there, and each page stands in one at most
+pub record IsKept (block : ℕ) (ss : Slots) : Type 0 where
+  pub count : length ss ≡ 1024
+  pub each : AllByRecursion (IsSlot block) ss
+  pub tied : (ino page : ℕ) → (k : Option ℕ) × IsSlotOf ino page k ss

@@ -1,0 +1,10 @@
+//! Pages of files that are kept in memory.
+#![tactic(auto)]
+
+mod page_cache;
+mod slot;
+
+pub use page_cache::PageCache;
+
+#[cfg(test)]
+mod tests;
