@@ -78,3 +78,8 @@ longer_of_both xs ys zs p q = pick (ltb (length xs) (length ys)) refl
     pick : (b : Bool) → ltb (length xs) (length ys) ≡ b → IsPrefix xs (cond b ys xs) × IsPrefix ys (cond b ys xs)
     pick true is = (let l : length xs < length ys = grind (arith, nat_tests) in (prefix_shorter xs ys zs p q (omega arith), prefix_same ys))
     pick false is = (let l : length ys ≤ length xs = grind (arith, nat_tests) in (prefix_same xs, prefix_shorter ys xs zs q p l))
+
+pub prefix_length : {A : Type 0} (xs ys : List A) → IsPrefix xs ys → length xs ≤ length ys
+prefix_length [] ys p = omega arith
+prefix_length (x ∷ xs) [] p = absurd (cc (p.1))
+prefix_length (x ∷ xs) (y ∷ ys) p = let r = prefix_length xs ys (p.0, cc (p.1)) in omega arith

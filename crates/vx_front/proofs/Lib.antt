@@ -5,3 +5,4 @@ pub mod Fitting
 pub mod Moves
 pub mod Calling
 pub mod Seating
+pub mod Meeting

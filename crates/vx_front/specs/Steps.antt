@@ -1,5 +1,5 @@
 -- What each kind of step makes of a view, and what it tells its seat.
-use Rattle.std.specs.Prelude.{ℕ, ◌≡◌, ◌+◌, ◌≤◌, List, [], ◌∷◌, length}
+use Rattle.std.specs.Prelude.{ℕ, ◌≡◌, ◌+◌, ◌≤◌, List, [], ◌∷◌, ◌++◌, length}
 use mathlib.Core.List.{IsPrefix}
 use Rattle.atomic_table.specs.Table.{Me, Step}
 use Rattle.vx_front.specs.declared.views.Entry.{Entry}
@@ -7,7 +7,7 @@ use Rattle.vx_front.specs.declared.views.View.{View}
 use Rattle.vx_front.specs.declared.views.View.TheVariants.{Kernel, Caller, Note, Spent}
 use Rattle.vx_front.specs.declared.views.KernelView.{KernelView}
 use Rattle.vx_front.specs.declared.views.CallerView.{CallerView}
-use Rattle.vx_front.specs.Views.{with_front, calls_by, told_of, new_kernel, new_caller, with_caller, with_fronts, with_entry, with_ended, with_read, with_begun, with_answer, kernel_note, caller_note, kernel_with_note, caller_with_note}
+use Rattle.vx_front.specs.Views.{with_front, calls_by, known_of, told_of, new_kernel, new_caller, with_caller, with_fronts, with_entry, with_ended, with_read, with_begun, with_answer, kernel_note, caller_note, kernel_with_note, caller_with_note}
 use Rattle.vx_front.specs.Rule.{RisesFrom, IsPublished, AllPublished}
 
 -- what the rule says of a caller's own view: all that it was told of stands in one log
@@ -38,6 +38,34 @@ pub record KernelFacts (k : KernelView) : Type 0 where
   pub known_len : length k.known ≡ k.made + 1
   pub told_len : length k.told ≡ k.made + 1
   pub ended : AllEnded k k.ended
+
+-- what the kernel and a caller know of each other once they have met
+pub record Agrees (k : KernelView) (c : CallerView) : Type 0 where
+  pub seen : IsPrefix k.log c.seen
+  pub mine : IsPrefix c.mine (calls_by c.number k.log)
+  pub opened : length (calls_by c.number k.log) ≤ c.begun
+  pub known : c.begun ≤ known_of k c.number
+
+-- the caller has no call begun: each that it began was answered
+abbrev pub IsIdle : CallerView → Type 0
+IsIdle c = c.begun ≡ length c.mine
+
+-- The call e was answered: k and c are what the kernel and its caller knew before, l and d what they know then
+pub record IsAnswered (e : Entry) (front : ℕ) (k : KernelView) (c : CallerView) (l : KernelView) (d : CallerView) : Type 0 where
+  pub log : l.log ≡ k.log ++ e ∷ []
+  pub fronts : l.fronts ≡ with_front k.fronts front
+  pub made : l.made ≡ k.made
+  pub ended : l.ended ≡ k.ended
+  pub number : d.number ≡ c.number
+  pub mine : d.mine ≡ c.mine ++ e ∷ []
+  -- the log has the caller's answered calls and no others of it
+  pub all : calls_by c.number l.log ≡ d.mine
+  pub idle : IsIdle d
+  pub later : IsPrefix c.seen d.seen
+  pub seen : IsPrefix l.log d.seen
+  pub reads : d.reads ≡ c.reads
+  pub reaches : front ≤ d.front
+  pub rises : c.front ≤ d.front
 
 -- a caller is made
 

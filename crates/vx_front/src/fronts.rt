@@ -2,7 +2,7 @@
 ghost use Rattle.std.specs.Prelude.{◌≡◌, ℕ, ◌+◌, ◌≤◌, ◌<◌, ◌++◌, ◌∷◌, [], length, IfOk, OnOk};
 ghost use mathlib.Core.List.{IsPrefix};
 ghost use Rattle.vx_front.specs.Views.{with_front, calls_by, known_of, new_kernel, new_caller, with_caller, with_fronts, with_entry, with_ended, with_read, with_begun, with_answer, kernel_note, caller_note, kernel_with_note, caller_with_note, new_seats};
-ghost use Rattle.vx_front.specs.Steps.{CallerFacts, KernelFacts};
+ghost use Rattle.vx_front.specs.Steps.{CallerFacts, KernelFacts, Agrees, IsIdle, IsAnswered};
 
 use crate::seats::{CallerSeat, KernelSeat};
 use crate::steps::{
@@ -148,15 +148,18 @@ impl Fronts {
             .join_seat::<TakeIn>(&mut kernel.seat, note);
     }
 
-    /// Each learns what the other knows.
+    /// The kernel learns of the caller's calls, and the caller the log and the last front.
     pub fn meet(&self, kernel: &mut KernelSeat, caller: &mut CallerSeat)
         requires kernel { kernel.old.table ≡ self.now }
         requires caller { caller.old.table ≡ self.now }
+        requires made { caller.old.knows.number ≤ kernel.old.knows.made }
         ensures tables { (kernel.new.table ≡ self.now) × (caller.new.table ≡ self.now) }
         ensures kernel { kernel.new.knows ≡ kernel_with_note kernel.old.knows (caller_note caller.old.knows) }
         ensures caller { caller.new.knows ≡ caller_with_note caller.old.knows (kernel_note kernel.old.knows) }
         ensures kernel_facts { KernelFacts kernel.new.knows }
         ensures caller_facts { CallerFacts caller.new.knows }
+        ensures agree { Agrees kernel.new.knows caller.new.knows }
+        ensures later { IsPrefix caller.old.knows.seen caller.new.knows.seen }
     {
         self.tell_kernel(caller, kernel);
         self.tell_caller(kernel, caller);
@@ -198,6 +201,30 @@ impl Fronts {
         self.table
             .shared
             .fetch_add::<Close<E>>(&mut caller.seat, caller.number as usize, 1);
+    }
+
+    /// Counts the answered call that E names, once its front is published. The log has the call, and the caller its answer.
+    pub fn answer_call<E: EntryName>(
+        &self,
+        kernel: &mut KernelSeat,
+        caller: &mut CallerSeat,
+        front: u64,
+    )
+        requires kernel { kernel.old.table ≡ self.now }
+        requires caller { caller.old.table ≡ self.now }
+        requires made { caller.old.knows.number ≤ kernel.old.knows.made }
+        requires idle { IsIdle caller.old.knows }
+        requires entry { E.entry.caller ≡ caller.old.knows.number }
+        ensures tables { (kernel.new.table ≡ self.now) × (caller.new.table ≡ self.now) }
+        ensures answered { IsAnswered E.entry front kernel.old.knows caller.old.knows kernel.new.knows caller.new.knows }
+    {
+        self.meet(kernel, caller);
+        self.begin_call(caller);
+        self.meet(kernel, caller);
+        self.publish(kernel, front);
+        self.open_call::<E>(kernel, caller.number());
+        self.meet(kernel, caller);
+        self.close_call::<E>(caller);
     }
 
     /// The kernel takes in a caller that has ended.

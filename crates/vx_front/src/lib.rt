@@ -10,3 +10,6 @@ pub use fronts::Fronts;
 pub use seats::{CallerSeat, KernelSeat};
 pub use steps::EntryName;
 pub use views::{CallerView, Entry, KernelView, NoteView, View};
+
+#[cfg(test)]
+mod tests;
