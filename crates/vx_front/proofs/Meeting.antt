@@ -4,8 +4,8 @@ use mathlib.Core.List.{IsPrefix}
 use Rattle.vx_front.specs.declared.views.Entry.{Entry}
 use Rattle.vx_front.specs.declared.views.KernelView.{KernelView}
 use Rattle.vx_front.specs.declared.views.CallerView.{CallerView}
-use Rattle.vx_front.specs.Views.{last_of, with_front, calls_by, known_of, told_of, with_fronts, with_entry, with_begun, with_answer, kernel_note, caller_note, kernel_with_note, caller_with_note}
-use Rattle.vx_front.specs.Steps.{CallerFacts, KernelFacts, Agrees, IsIdle, IsAnswered}
+use Rattle.vx_front.specs.Views.{last_of, with_front, calls_by, known_of, told_of, with_fronts, with_entry, with_ended, with_begun, with_answer, kernel_note, caller_note, kernel_with_note, caller_with_note}
+use Rattle.vx_front.specs.Steps.{CallerFacts, EndedFacts, AllEnded, KernelFacts, Agrees, IsIdle, IsAnswered}
 use Rattle.vx_front.proofs.Rising.{last_more}
 use Rattle.vx_front.proofs.Entries.{calls-push, calls_prefix, prefix_trans, prefix_whole, prefix_length, longer_of_both}
 use Rattle.vx_front.proofs.Lists.{length_same, at_or_here}
@@ -50,6 +50,17 @@ may_close e k l c d after log number mine own all =
 -- an idle caller's answered calls are all that the log has of it
 pub idle_calls : (k : KernelView) (c : CallerView) → Agrees k c → IsIdle c → c.mine ≡ calls_by c.number k.log
 idle_calls k c agrees idle = prefix_whole c.mine (calls_by c.number k.log) agrees.mine (let a = agrees.opened in omega arith)
+
+-- the caller that ended last
+last_ended : (k : KernelView) (cs : List CallerView) (c : CallerView) → AllEnded k (cs ++ c ∷ []) → EndedFacts k c
+last_ended k [] c h = h.0
+last_ended k (d ∷ ds) c h = last_ended k ds c h.1
+
+pub ended_facts : (k l : KernelView) (c : CallerView) → l ≡ with_ended k c → KernelFacts l → EndedFacts l c
+ended_facts k l c is f = subst (λ (x : KernelView). EndedFacts x c) (sym is) (last_ended (with_ended k c) k.ended c (subst KernelFacts is f).ended)
+
+pub ended_calls : (l : KernelView) (c : CallerView) → EndedFacts l c → IsIdle c → calls_by c.number l.log ≡ c.mine
+ended_calls l c f idle = sym (prefix_whole c.mine (calls_by c.number l.log) f.mine (let a = f.opened in omega arith))
 
 -- The steps of one answered call, as the views stand after each
 pub record Steps (e : Entry) (at : ℕ) (k : KernelView) (c : CallerView) (k1 : KernelView) (c1 c2 : CallerView) (k3 : KernelView) (c3 : CallerView) (k4 k5 k6 : KernelView) (c6 : CallerView) : Type 0 where

@@ -2,7 +2,7 @@
 ghost use Rattle.std.specs.Prelude.{◌≡◌, ℕ, ◌+◌, ◌≤◌, ◌<◌, ◌++◌, ◌∷◌, [], length, IfOk, OnOk};
 ghost use mathlib.Core.List.{IsPrefix};
 ghost use Rattle.vx_front.specs.Views.{with_front, calls_by, known_of, new_kernel, new_caller, with_caller, with_fronts, with_entry, with_ended, with_read, with_begun, with_answer, kernel_note, caller_note, kernel_with_note, caller_with_note, new_seats};
-ghost use Rattle.vx_front.specs.Steps.{CallerFacts, KernelFacts, Agrees, IsIdle, IsAnswered};
+ghost use Rattle.vx_front.specs.Steps.{CallerFacts, EndedFacts, KernelFacts, Agrees, IsIdle, IsAnswered};
 
 use crate::seats::{CallerSeat, KernelSeat};
 use crate::steps::{
@@ -227,8 +227,7 @@ impl Fronts {
         self.close_call::<E>(caller);
     }
 
-    /// The kernel takes in a caller that has ended.
-    pub fn end_caller(&self, kernel: &mut KernelSeat, caller: CallerSeat)
+    fn take_in(&self, kernel: &mut KernelSeat, caller: CallerSeat)
         requires kernel { kernel.old.table ≡ self.now }
         requires caller { caller.table ≡ self.now }
         ensures same { kernel.new.table ≡ kernel.old.table }
@@ -238,5 +237,19 @@ impl Fronts {
         self.table
             .shared
             .join_seat::<TakeIn>(&mut kernel.seat, seat);
+    }
+
+    /// The kernel takes in a caller that has ended. Of an idle one the log has its answered calls and no others.
+    pub fn end_caller(&self, kernel: &mut KernelSeat, caller: CallerSeat)
+        requires kernel { kernel.old.table ≡ self.now }
+        requires caller { caller.table ≡ self.now }
+        ensures same { kernel.new.table ≡ kernel.old.table }
+        ensures knows { kernel.new.knows ≡ with_ended kernel.old.knows caller.knows }
+        ensures facts { KernelFacts kernel.new.knows }
+        ensures ended { EndedFacts kernel.new.knows caller.knows }
+        ensures all { IsIdle caller.knows → calls_by caller.knows.number kernel.new.knows.log ≡ caller.knows.mine }
+    {
+        self.take_in(kernel, caller);
+        self.look_as_kernel(kernel);
     }
 }
