@@ -51,6 +51,11 @@ may_close e k l c d after log number mine own all =
 pub idle_calls : (k : KernelView) (c : CallerView) → Agrees k c → IsIdle c → c.mine ≡ calls_by c.number k.log
 idle_calls k c agrees idle = prefix_whole c.mine (calls_by c.number k.log) agrees.mine (let a = agrees.opened in omega arith)
 
+pub meeting_calls : (k l : KernelView) (c d : CallerView) → d ≡ met_caller k c → Agrees l d → IsIdle c → calls_by d.number l.log ≡ d.mine
+meeting_calls k l c d met agrees idle =
+    let idle_still : IsIdle d = ap (λ (x : CallerView). x.begun) met ∙ (idle ∙ ap (λ (x : CallerView). length x.mine) (sym met)) in
+    sym (idle_calls l d agrees idle_still)
+
 -- the caller that ended last
 last_ended : (k : KernelView) (cs : List CallerView) (c : CallerView) → AllEnded k (cs ++ c ∷ []) → EndedFacts k c
 last_ended k [] c h = h.0

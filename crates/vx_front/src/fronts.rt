@@ -160,6 +160,9 @@ impl Fronts {
         ensures caller_facts { CallerFacts caller.new.knows }
         ensures agree { Agrees kernel.new.knows caller.new.knows }
         ensures later { IsPrefix caller.old.knows.seen caller.new.knows.seen }
+
+        // Of an idle caller the log has its answered calls and no others.
+        ensures all { IsIdle caller.old.knows → calls_by caller.new.knows.number kernel.new.knows.log ≡ caller.new.knows.mine }
     {
         self.tell_kernel(caller, kernel);
         self.tell_caller(kernel, caller);

@@ -1,7 +1,7 @@
 use Rattle.std.proofs.Common.{sym, ◌∙◌, ap, subst}
 use Rattle.vx_front.specs.Views.{KernelState, CallerState, kernel_note, caller_with_note}
 use Rattle.vx_front.specs.Steps.{KernelFacts, CallerFacts}
-use Rattle.vx_front.proofs.Meeting.{meeting_agrees, meeting_later}
+use Rattle.vx_front.proofs.Meeting.{meeting_agrees, meeting_calls, meeting_later}
 use Rattle.vx_front.proofs.fronts.Fronts.meet.Goals as goal
 
 pub returns-clause-agree : goal.returns-clause-agree
@@ -18,3 +18,9 @@ returns-clause-later c =
     meeting_later c.args.kernel.now.knows c.args.caller.now.knows _
     (ap (λ s. s.knows) c.look.ensures.same ∙ (c.tell_caller.ensures.knows ∙ (λ i. caller_with_note (c.tell_kernel.ensures.caller i).knows (kernel_note (c.tell_kernel.ensures.knows i)))))
     (subst (λ (s : CallerState). CallerFacts s.knows) (sym c.look.ensures.same) c.look.ensures.facts)
+
+pub returns-clause-all : goal.returns-clause-all
+returns-clause-all c =
+    meeting_calls c.args.kernel.now.knows c.look_as_kernel.new.kernel.knows c.args.caller.now.knows _
+        (ap (λ s. s.knows) c.look.ensures.same ∙ (c.tell_caller.ensures.knows ∙ (λ i. caller_with_note (c.tell_kernel.ensures.caller i).knows (kernel_note (c.tell_kernel.ensures.knows i)))))
+        (returns-clause-agree c)
