@@ -83,7 +83,7 @@ begins slots id c s h len at small =
       Caller (with_begun c),
       keeps,
       tt,
-      caller_kept s h ws s.homes id c (with_begun c) u at (begun_differs h.counts c.number) mine.own
+      caller_kept s h ws s.homes id c (with_begun c) u at refl (begun_differs h.counts c.number) mine.own
           (let z = length_same s.words c.number (next_word s.words c.number) in let r = h.room in omega arith)
           (index_else s.words c.number 0 (next_word s.words c.number) (λ (e : 0 ≡ c.number). absurd (omega arith)) ∙ h.newest)
           (begun_counted s.words h.knows h.counts c.number mine.one mine.made h.counted)
@@ -159,7 +159,7 @@ closes slots id c e next s h len at small =
       Caller (with_answer c e),
       keeps,
       tt,
-      caller_kept s h ws s.homes id c (with_answer c e) u at (closed_differs h.counts n es) mine.own
+      caller_kept s h ws s.homes id c (with_answer c e) u at refl (closed_differs h.counts n es) mine.own
           (let z = length_same s.words n (next_word s.words n) in let r = h.room in omega arith)
           (index_else s.words n 0 (next_word s.words n) (λ (z : 0 ≡ n). absurd (omega arith)) ∙ h.newest)
           (closed_counted s.words h.knows h.counts n e (subst (λ (l : List Entry). IsPrefix (l ++ e ∷ []) (calls_by n h.knows.log)) (sym mine.mine) longer) h.counted)
@@ -224,6 +224,8 @@ opens_it s h id e same fewer =
     h.rises
     (opened_counted s.words h.knows h.counts e few h.counted)
     (ended_grown h.seat h.knows l h.counts h.knows.ended grows h.ended)
+    refl
+    refl
 
 -- only where the caller's entries are fewer than the calls that it is known to have begun
 pub opens : (slots id : ℕ) (k : KernelView) (e : Entry) → length (calls_by e.caller k.log) < known_of k e.caller

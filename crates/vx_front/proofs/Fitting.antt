@@ -1,16 +1,16 @@
 -- Views that still fit after another seat's step.
-use Rattle.std.proofs.Common.{◌≡◌, ◌≢◌, ℕ, ◌<◌, ◌≤◌, List, [], ◌∷◌, ◌++◌, set, sym, ap, ◌∙◌, subst, ⊎_elim, arith}
+use Rattle.std.proofs.Common.{◌≡◌, ◌≢◌, ℕ, ◌<◌, ◌≤◌, ◌⊎◌, List, [], ◌∷◌, ◌++◌, set, sym, ap, ◌∙◌, subst, ⊎_elim, inl, inr, arith}
 use mathlib.Core.List.{IsPrefix}
 use mathlib.Core.Option.{some}
 use lib.ListN.{get_elem?}
-use Rattle.atomic_table.proofs.Lists.{at_set}
+use Rattle.atomic_table.proofs.Lists.{at_set, set_else}
 use Rattle.vx_front.specs.declared.views.View.{View}
 use Rattle.vx_front.specs.declared.views.View.TheVariants.{Kernel, Caller, Note, Spent}
 use Rattle.vx_front.specs.declared.views.KernelView.{KernelView}
 use Rattle.vx_front.specs.declared.views.CallerView.{CallerView}
 use Rattle.vx_front.specs.declared.views.NoteView.{NoteView}
 use Rattle.vx_front.specs.Views.{calls_by}
-use Rattle.vx_front.specs.Rule.{IsPublished, Counts, FitsCaller, FitsNote, Fits, AllFit}
+use Rattle.vx_front.specs.Rule.{IsPublished, Counts, FitsCaller, FitsNote, Fits, AllFit, IsEnded, AllDiffer, HasSeat}
 use Rattle.vx_front.proofs.Rising.{all_published}
 use Rattle.vx_front.proofs.Entries.{calls_prefix, prefix_trans}
 
@@ -139,3 +139,50 @@ apart_note views seat id k n there at same =
 pub one_kernel : (views : List View) (seat id : ℕ) (k l : KernelView) → get_elem? views seat ≡ some (Kernel k) → get_elem? views id ≡ some (Kernel l) → id ≡ seat → l ≡ k
 one_kernel views seat id k l there at same =
     let e : some (Kernel l) ≡ some (Kernel k) = sym at ∙ ap (get_elem? views) same ∙ there in cc
+
+-- the callers that have ended
+
+pub ended_seat : (seat : ℕ) (k : KernelView) (t : Counts) (cs : List CallerView) (n : ℕ) → AllFit seat k t cs → IsEnded cs n → t.seat_of n ≡ seat
+ended_seat seat k t [] n h i = absurd i
+ended_seat seat k t (c ∷ cs) n h i = ⊎_elim (λ (e : c.number ≡ n). ap t.seat_of (sym e) ∙ h.0.own) (λ (r : IsEnded cs n). ended_seat seat k t cs n h.1 r) i
+
+pub ended_last : (cs : List CallerView) (c : CallerView) (n : ℕ) → c.number ≡ n → IsEnded (cs ++ c ∷ []) n
+ended_last [] c n e = inl e
+ended_last (d ∷ ds) c n e = inr (ended_last ds c n e)
+
+pub ended_more : (cs : List CallerView) (c : CallerView) (n : ℕ) → IsEnded cs n → IsEnded (cs ++ c ∷ []) n
+ended_more [] c n i = absurd i
+ended_more (d ∷ ds) c n i = ⊎_elim (λ (e : d.number ≡ n). inl e) (λ (r : IsEnded ds n). inr (ended_more ds c n r)) i
+
+ended_split : (cs : List CallerView) (c : CallerView) (n : ℕ) → IsEnded (cs ++ c ∷ []) n → IsEnded cs n ⊎ (c.number ≡ n)
+ended_split [] c n i = ⊎_elim (λ (e : c.number ≡ n). inr e) (λ (z : ⊥). absurd z) i
+ended_split (d ∷ ds) c n i = ⊎_elim (λ (e : d.number ≡ n). inl (inl e)) (λ (r : IsEnded (ds ++ c ∷ []) n). ⊎_elim (λ (a : IsEnded ds n). inl (inr a)) (λ (b : c.number ≡ n). inr b) (ended_split ds c n r)) i
+
+pub differ_push : (cs : List CallerView) (c : CallerView) → AllDiffer cs → ¬ (IsEnded cs c.number) → AllDiffer (cs ++ c ∷ [])
+differ_push [] c h fresh = ((λ (z : ⊥). z), tt)
+differ_push (d ∷ ds) c h fresh = ((λ (i : IsEnded (ds ++ c ∷ []) d.number). ⊎_elim (λ (a : IsEnded ds d.number). h.0 a) (λ (e : c.number ≡ d.number). fresh (inl (sym e))) (ended_split ds c d.number i)), differ_push ds c h.1 (λ (r : IsEnded ds c.number). fresh (inr r)))
+
+-- the seats of the others
+
+pub seat_set : (views : List View) (t u : Counts) (n id : ℕ) (w : View) → u.seat_of n ≡ t.seat_of n → t.seat_of n ≢ id → HasSeat views t n → HasSeat (set views id w) u n
+seat_set views t u n id w same apart h = record {
+  caller = h.caller;
+  there = ap (get_elem? (set views id w)) same ∙ (set_else views id (t.seat_of n) w apart ∙ h.there);
+  number = h.number;
+}
+
+-- a seat that is the kernel's or a note's is no caller's
+pub not_kernel : (views : List View) (t : Counts) (n id : ℕ) (k : KernelView) → get_elem? views id ≡ some (Kernel k) → HasSeat views t n → t.seat_of n ≢ id
+not_kernel views t n id k at h same =
+    let e : some (Kernel k) ≡ some (Caller h.caller) = sym at ∙ ap (get_elem? views) (sym same) ∙ h.there in absurd cc
+
+pub not_note : (views : List View) (t : Counts) (n id : ℕ) (w : NoteView) → get_elem? views id ≡ some (Note w) → HasSeat views t n → t.seat_of n ≢ id
+not_note views t n id w at h same =
+    let e : some (Note w) ≡ some (Caller h.caller) = sym at ∙ ap (get_elem? views) (sym same) ∙ h.there in absurd cc
+
+-- nor that of a caller of another number
+pub not_caller : (views : List View) (t : Counts) (n id : ℕ) (c : CallerView) → get_elem? views id ≡ some (Caller c) → c.number ≢ n → HasSeat views t n → t.seat_of n ≢ id
+not_caller views t n id c at apart h same =
+    let e : some (Caller c) ≡ some (Caller h.caller) = sym at ∙ ap (get_elem? views) (sym same) ∙ h.there in
+    let f : c ≡ h.caller = cc in
+    apart (ap (λ (x : CallerView). x.number) f ∙ h.number)

@@ -1,11 +1,13 @@
 -- Each step on word 0 keeps the rule.
-use Rattle.std.proofs.Common.{◌≡◌, ◌≢◌, ℕ, zero, suc, ◌+◌, ◌%◌, ◌<◌, ◌≤◌, max, List, [], ◌∷◌, ◌++◌, length, set, refl, sym, ap, ◌∙◌, subst, ⊎_elim, inl, arith, replicate, add-one, length-append}
+use Rattle.std.proofs.Common.{◌≡◌, ◌≢◌, ℕ, zero, suc, ◌+◌, ◌%◌, ◌<◌, ◌≤◌, max, List, [], ◌∷◌, ◌++◌, length, set, refl, sym, ap, ◌∙◌, subst, ⊎_elim, inl, inr, arith, replicate, add-one, length-append}
 use Rattle.std.specs.Prelude.{slice_index, slice_index_or}
 use mathlib.Core.Option.{some, some-ne-none, some-injective}
 use mathlib.Core.List.{IsPrefix}
+use mathlib.Core.Logic.{dite}
+use native.Mathlib.Decide.{ℕ_discrete}
 use lib.ListN.{get_elem?}
 use Rattle.atomic_table.specs.Table.{State, step, keeps, opening, Allows, Splits, Joins}
-use Rattle.atomic_table.proofs.Lists.{set_again, set_here, set_else, at_longer}
+use Rattle.atomic_table.proofs.Lists.{set_again, set_here, set_else, at_longer, at_last}
 use Rattle.vx_front.specs.declared.views.Entry.{Entry}
 use Rattle.vx_front.specs.declared.views.View.{View}
 use Rattle.vx_front.specs.declared.views.View.TheVariants.{Kernel, Caller, Note, Spent}
@@ -13,12 +15,12 @@ use Rattle.vx_front.specs.declared.views.KernelView.{KernelView}
 use Rattle.vx_front.specs.declared.views.CallerView.{CallerView}
 use Rattle.vx_front.specs.declared.views.NoteView.{NoteView}
 use Rattle.vx_front.specs.Views.{last_of, with_front, calls_by, known_of, told_of, new_kernel, new_caller, with_caller, with_fronts, with_ended, with_read, kernel_note, caller_note, kernel_with_note, caller_with_note}
-use Rattle.vx_front.specs.Rule.{RisesFrom, IsPublished, Counts, FitsCaller, FitsNote, Fits, AllFit, IsCounted, Kept, first_view}
+use Rattle.vx_front.specs.Rule.{RisesFrom, IsPublished, Counts, FitsCaller, FitsNote, Fits, AllFit, IsEnded, AllDiffer, HasSeat, IsCounted, Kept, first_view}
 use Rattle.vx_front.specs.Steps.{CallerFacts, AllEnded, KernelFacts, is_read, is_look, is_publish, note_of}
 use Rattle.vx_front.proofs.Rising.{last_published, published_low, published_more, rises_more, last_more, max_published, all_push}
 use Rattle.vx_front.proofs.Entries.{prefix_same, prefix_of_nil, nil_of_length, longer_prefix}
 use Rattle.vx_front.proofs.Lists.{below, same_word, index_set, index_else, length_same, at_or, at_push, or_push, put, put_here, put_else}
-use Rattle.vx_front.proofs.Fitting.{Grows, view_grown, ended_grown, ended_push, DiffersAt, view_apart, ended_apart, view_new, ended_new, each_set, apart_caller, apart_note, one_kernel}
+use Rattle.vx_front.proofs.Fitting.{Grows, view_grown, ended_grown, ended_push, DiffersAt, view_apart, ended_apart, view_new, ended_new, each_set, ended_seat, ended_last, ended_more, differ_push, seat_set, not_kernel, not_note, not_caller, apart_caller, apart_note, one_kernel}
 
 abbrev pub no_value : mathlib.Core.Option.Option ℕ
 no_value = mathlib.Core.Option.none
@@ -30,9 +32,9 @@ state ws hs vs = record { words = ws; homes = hs; views = vs }
 pub kernel_kept : (s : State ℕ View) (h : Kept s) (ws : List ℕ) (hs : List (mathlib.Core.Option.Option ℕ)) (id : ℕ) (l : KernelView)
     → id ≡ h.seat → Grows h.knows l
     → 0 < length ws → slice_index ws 0 ≡ last_of l.fronts → RisesFrom 0 l.fronts
-    → IsCounted ws l h.counts → AllFit h.seat l h.counts l.ended
+    → IsCounted ws l h.counts → AllFit h.seat l h.counts l.ended → l.made ≡ h.knows.made → l.ended ≡ h.knows.ended
     → Kept (state ws hs (set s.views id (Kernel l)))
-kernel_kept s h ws hs id l same grows room newest rises counted ended = record {
+kernel_kept s h ws hs id l same grows room newest rises counted ended made still_ended = record {
   seat = h.seat;
   knows = l;
   counts = h.counts;
@@ -43,15 +45,20 @@ kernel_kept s h ws hs id l same grows room newest rises counted ended = record {
   counted = counted;
   ended = ended;
   each = each_set h.seat h.knows l h.counts h.counts s.views id (Kernel l) h.each (λ by v apart f. view_grown h.seat h.knows l h.counts by v grows f) same;
+  all = λ n pos low. ⊎_elim
+      (λ (x : HasSeat s.views h.counts n). inl (seat_set s.views h.counts h.counts n id (Kernel l) refl (λ (e : h.counts.seat_of n ≡ id). not_kernel s.views h.counts n h.seat h.knows h.there x (e ∙ same)) x))
+      (λ (x : IsEnded h.knows.ended n). inr (subst (λ (cs : List CallerView). IsEnded cs n) (sym still_ended) x))
+      (h.all n pos (omega arith));
+  differ = subst AllDiffer (sym still_ended) h.differ;
 }
 
 -- a caller's own view becomes d, and its counts with it
 pub caller_kept : (s : State ℕ View) (h : Kept s) (ws : List ℕ) (hs : List (mathlib.Core.Option.Option ℕ)) (id : ℕ) (c d : CallerView) (u : Counts)
-    → get_elem? s.views id ≡ some (Caller c) → DiffersAt c.number h.counts u → h.counts.seat_of c.number ≡ id
+    → get_elem? s.views id ≡ some (Caller c) → d.number ≡ c.number → DiffersAt c.number h.counts u → h.counts.seat_of c.number ≡ id
     → 0 < length ws → slice_index ws 0 ≡ last_of h.knows.fronts
     → IsCounted ws h.knows u → FitsCaller h.knows u id d
     → Kept (state ws hs (set s.views id (Caller d)))
-caller_kept s h ws hs id c d u at differs own room newest counted fits = record {
+caller_kept s h ws hs id c d u at number differs own room newest counted fits = record {
   seat = h.seat;
   knows = h.knows;
   counts = u;
@@ -62,6 +69,17 @@ caller_kept s h ws hs id c d u at differs own room newest counted fits = record 
   counted = counted;
   ended = ended_apart h.seat h.knows c.number h.counts u id h.knows.ended differs own (apart_caller s.views h.seat id h.knows c h.there at) h.ended;
   each = each_set h.seat h.knows h.knows h.counts u s.views id (Caller d) h.each (λ by v apart f. view_apart h.seat h.knows c.number h.counts u id by v differs own apart f) fits;
+  all = λ n pos low. ⊎_elim
+      (λ (x : HasSeat s.views h.counts n). inl (dite (ℕ_discrete n c.number)
+      (λ (e : n ≡ c.number). record {
+        caller = d;
+        there = ap (get_elem? (set s.views id (Caller d))) (ap u.seat_of (e ∙ sym number) ∙ fits.own) ∙ set_here s.views id (Caller d) (below s.views id (Caller c) at);
+        number = number ∙ sym e;
+      })
+      (λ (a : n ≢ c.number). seat_set s.views h.counts u n id (Caller d) (differs.seats n a) (not_caller s.views h.counts n id c at (λ (z : c.number ≡ n). a (sym z)) x) x)))
+      (λ (x : IsEnded h.knows.ended n). inr x)
+      (h.all n pos low);
+  differ = h.differ;
 }
 
 pub same_counts : (n : ℕ) (t : Counts) → DiffersAt n t t
@@ -69,11 +87,11 @@ same_counts n t = record { seats = λ m h. refl; begun = λ m h. refl; mine = λ
 
 -- the words are as they were
 pub caller_kept_still : (s : State ℕ View) (h : Kept s) (ws : List ℕ) (hs : List (mathlib.Core.Option.Option ℕ)) (id : ℕ) (c d : CallerView)
-    → ws ≡ s.words → get_elem? s.views id ≡ some (Caller c) → FitsCaller h.knows h.counts id d
+    → ws ≡ s.words → get_elem? s.views id ≡ some (Caller c) → d.number ≡ c.number → FitsCaller h.knows h.counts id d
     → Kept (state ws hs (set s.views id (Caller d)))
-caller_kept_still s h ws hs id c d same at fits =
+caller_kept_still s h ws hs id c d same at number fits =
     let mine : FitsCaller h.knows h.counts id c = h.each id (Caller c) at in
-    subst (λ (l : List ℕ). Kept (state l hs (set s.views id (Caller d)))) (sym same) (caller_kept s h s.words hs id c d h.counts at (same_counts c.number h.counts) mine.own h.room h.newest h.counted fits)
+    subst (λ (l : List ℕ). Kept (state l hs (set s.views id (Caller d)))) (sym same) (caller_kept s h s.words hs id c d h.counts at number (same_counts c.number h.counts) mine.own h.room h.newest h.counted fits)
 
 -- a new view
 pub newcomer_kept : (s : State ℕ View) (w : View) (h : Kept s) → Fits h.seat h.knows h.counts (length s.views) w → Kept (state s.words s.homes (s.views ++ w ∷ []))
@@ -91,11 +109,16 @@ newcomer_kept s w h fits = record {
       (h.each by v)
       (λ (x : (by ≡ length s.views) × (w ≡ v)). subst (λ (y : ℕ × View). Fits h.seat h.knows h.counts y.0 y.1) (λ i. (sym x.0 i, x.1 i)) fits)
       (at_push s.views w v by e);
+  all = λ n pos low. ⊎_elim
+      (λ (x : HasSeat s.views h.counts n). inl (record { caller = x.caller; there = at_longer s.views (w ∷ []) (h.counts.seat_of n) (Caller x.caller) x.there; number = x.number }))
+      (λ (x : IsEnded h.knows.ended n). inr x)
+      (h.all n pos low);
+  differ = h.differ;
 }
 
--- a view that isn't the kernel's is spent
-pub spent_kept : (s : State ℕ View) (other : ℕ) (h : Kept s) → h.seat ≢ other → Kept (state s.words s.homes (set s.views other Spent))
-spent_kept s other h apart = record {
+-- a note is spent
+pub spent_kept : (s : State ℕ View) (other : ℕ) (h : Kept s) (m : NoteView) → get_elem? s.views other ≡ some (Note m) → h.seat ≢ other → Kept (state s.words s.homes (set s.views other Spent))
+spent_kept s other h m at apart = record {
   seat = h.seat;
   knows = h.knows;
   counts = h.counts;
@@ -106,6 +129,11 @@ spent_kept s other h apart = record {
   counted = h.counted;
   ended = h.ended;
   each = each_set h.seat h.knows h.knows h.counts h.counts s.views other Spent h.each (λ by v a f. f) tt;
+  all = λ n pos low. ⊎_elim
+      (λ (x : HasSeat s.views h.counts n). inl (seat_set s.views h.counts h.counts n other Spent refl (not_note s.views h.counts n other m at x) x))
+      (λ (x : IsEnded h.knows.ended n). inr x)
+      (h.all n pos low);
+  differ = h.differ;
 }
 
 -- the table at the start
@@ -140,6 +168,8 @@ first_kept ws room all = record {
   };
   ended = tt;
   each = one;
+  all = λ n pos low. absurd (omega arith);
+  differ = tt;
 }
   where
     one : (by : ℕ) (v : View) → get_elem? (first_view ∷ []) by ≡ some v → Fits 0 (new_kernel 0) (record { seat_of = λ n. 0; begun = λ n. 0; mine = λ n. [] }) by v
@@ -166,7 +196,7 @@ reads slots id c s h len at small =
       Caller (with_read c f),
       keeps,
       tt,
-      caller_kept_still s h (set s.words 0 f) s.homes id c (with_read c f) (same_word s.words) at fits,
+      caller_kept_still s h (set s.words 0 f) s.homes id c (with_read c f) (same_word s.words) at refl fits,
       ((refl, subst (λ (z : ℕ). c.front ≤ z) (sym h.newest) (published_low c.front h.knows.fronts h.rises mine.front)), refl),
     )
 
@@ -184,7 +214,7 @@ facts_of_caller s h by c mine = record {
 pub looks : (slots id : ℕ) (c : CallerView) → Allows Kept slots id (Caller c, []) 0 (λ n. n) (is_look (step slots 0 0 0 no_value) (Caller c, []))
 looks slots id c s h len at small =
     let mine : FitsCaller h.knows h.counts id c = h.each id (Caller c) at in
-    (Caller c, keeps, tt, caller_kept_still s h (set s.words 0 (slice_index s.words 0)) s.homes id c c (same_word s.words) at mine, ((refl, facts_of_caller s h id c mine), refl))
+    (Caller c, keeps, tt, caller_kept_still s h (set s.words 0 (slice_index s.words 0)) s.homes id c c (same_word s.words) at refl mine, ((refl, facts_of_caller s h id c mine), refl))
 
 -- what the rule says of the kernel
 
@@ -205,7 +235,7 @@ pub kernel_looks : (slots id : ℕ) (k : KernelView) → Allows Kept slots id (K
 kernel_looks slots id k s h len at small =
     let same = h.each id (Kernel k) at in
     let is : k ≡ h.knows = one_kernel s.views h.seat id h.knows k h.there at same in
-    let kept : Kept (state s.words s.homes (set s.views id (Kernel h.knows))) = kernel_kept s h s.words s.homes id h.knows same (same_grows h.knows) h.room h.newest h.rises h.counted h.ended in (
+    let kept : Kept (state s.words s.homes (set s.views id (Kernel h.knows))) = kernel_kept s h s.words s.homes id h.knows same (same_grows h.knows) h.room h.newest h.rises h.counted h.ended refl refl in (
       Kernel h.knows,
       keeps,
       tt,
@@ -248,7 +278,9 @@ publishes slots id k new s h len at small =
           (index_set s.words 0 f h.room ∙ (ap (λ (x : ℕ). max x new) h.newest ∙ sym (last_more h.knows.fronts new)))
           (rises_more h.knows.fronts new h.rises)
           (counted_front s.words f h.knows l h.counts refl refl refl refl h.counted)
-          (ended_grown h.seat h.knows l h.counts h.knows.ended grows h.ended),
+          (ended_grown h.seat h.knows l h.counts h.knows.ended grows h.ended)
+          refl
+          refl,
       (ap (λ (x : KernelView). Kernel (with_fronts x (with_front x.fronts new))) (sym is), refl),
     )
 
@@ -263,23 +295,6 @@ seated_differs k t x = record { seats = λ m apart. put_else t.seat_of (k.made +
 
 counted_seats : (ws : List ℕ) (k : KernelView) (t : Counts) (seats : ℕ → ℕ) → IsCounted ws k t → IsCounted ws k (record { seat_of = seats; begun = t.begun; mine = t.mine })
 counted_seats ws k t seats h = record { word = h.word; none = h.none; above = h.above; opened = h.opened; mine = h.mine; known = h.known; told = h.told; known_len = h.known_len; told_len = h.told_len }
-
-pub seated_kept : (s : State ℕ View) (h : Kept s) (x : ℕ) → Kept s
-seated_kept s h x =
-    let u = seated h.knows h.counts x in
-    let high : h.knows.made < h.knows.made + 1 = omega arith in
-    let differs = seated_differs h.knows h.counts x in record {
-      seat = h.seat;
-      knows = h.knows;
-      counts = u;
-      there = h.there;
-      room = h.room;
-      newest = h.newest;
-      rises = h.rises;
-      counted = counted_seats s.words h.knows h.counts u.seat_of h.counted;
-      ended = ended_new h.seat h.knows (h.knows.made + 1) h.counts u h.knows.ended differs high h.ended;
-      each = λ by v e. view_new h.seat h.knows (h.knows.made + 1) h.counts u by v differs high (h.each by v e);
-    }
 
 counted_caller : (ws : List ℕ) (k : KernelView) (t : Counts) → IsCounted ws k t → IsCounted ws (with_caller k) t
 counted_caller ws k t h = record {
@@ -313,15 +328,41 @@ new_fits ws k t x h =
     }
 
 makes_it : (s : State ℕ View) (h : Kept s) (id : ℕ) → id ≡ h.seat → Kept (state s.words s.homes (set s.views id (Kernel (with_caller h.knows)) ++ Caller (new_caller (h.knows.made + 1)) ∷ []))
-unfolding kernel_kept seated_kept
 makes_it s h id same =
     let l = with_caller h.knows in
-    let x = length (set s.views id (Kernel l)) in
-    let one = seated_kept s h x in
+    let w = Caller (new_caller (h.knows.made + 1)) in
+    let views = set s.views id (Kernel l) in
+    let x = length views in
+    let u = seated h.knows h.counts x in
+    let high : h.knows.made < h.knows.made + 1 = omega arith in
+    let differs = seated_differs h.knows h.counts x in
     let grows : Grows h.knows l = record { fronts = λ f p. p; log = prefix_same h.knows.log; made = omega arith } in
-    let counted = counted_caller s.words h.knows one.counts one.counted in
-    let two = kernel_kept s one s.words s.homes id l same grows h.room h.newest h.rises counted (ended_grown h.seat h.knows l one.counts h.knows.ended grows one.ended) in
-    newcomer_kept (state s.words s.homes (set s.views id (Kernel l))) (Caller (new_caller (h.knows.made + 1))) two (new_fits s.words h.knows h.counts x h.counted)
+    let fits = new_fits s.words h.knows h.counts x h.counted in
+    let here : get_elem? views h.seat ≡ some (Kernel l) = subst (λ n. get_elem? (set s.views n (Kernel l)) h.seat ≡ some (Kernel l)) (sym same) (set_here s.views h.seat (Kernel l) (below s.views h.seat (Kernel h.knows) h.there)) in
+    let counted = counted_caller s.words h.knows u (counted_seats s.words h.knows h.counts u.seat_of h.counted) in record {
+      seat = h.seat;
+      knows = l;
+      counts = u;
+      there = at_longer views (w ∷ []) h.seat (Kernel l) here;
+      room = h.room;
+      newest = h.newest;
+      rises = h.rises;
+      counted = counted;
+      ended = ended_grown h.seat h.knows l u h.knows.ended grows (ended_new h.seat h.knows (h.knows.made + 1) h.counts u h.knows.ended differs high h.ended);
+      each = λ by v e. ⊎_elim
+          (each_set h.seat h.knows l h.counts u s.views id (Kernel l) h.each (λ b z a f. view_grown h.seat h.knows l u b z grows (view_new h.seat h.knows (h.knows.made + 1) h.counts u b z differs high f)) same by v)
+          (λ (p : (by ≡ x) × (w ≡ v)). subst (λ (y : ℕ × View). Fits h.seat l u y.0 y.1) (λ i. (sym p.0 i, p.1 i)) fits)
+          (at_push views w v by e);
+      all = λ n pos low. dite (ℕ_discrete n (h.knows.made + 1))
+          (λ (e : n ≡ h.knows.made + 1). inl (record { caller = new_caller (h.knows.made + 1); there = at_last views w (u.seat_of n) (sym (ap u.seat_of e ∙ fits.own)); number = sym e }))
+          (λ (a : n ≢ h.knows.made + 1). ⊎_elim
+          (λ (y : HasSeat s.views h.counts n).
+          let z = seat_set s.views h.counts u n id (Kernel l) (differs.seats n a) (λ (e : h.counts.seat_of n ≡ id). not_kernel s.views h.counts n h.seat h.knows h.there y (e ∙ same)) y in
+          inl (record { caller = z.caller; there = at_longer views (w ∷ []) (u.seat_of n) (Caller z.caller) z.there; number = z.number }))
+          (λ (y : IsEnded h.knows.ended n). inr y)
+          (h.all n pos (omega arith)));
+      differ = h.differ;
+    }
 
 pub makes : (id : ℕ) (k : KernelView) → Splits Kept id (Kernel k) (Kernel (with_caller k)) (Caller (new_caller (k.made + 1)))
 makes id k s h at =
@@ -375,8 +416,8 @@ caller_hears id c other n s h at apart there =
       begun = mine.begun;
       mine = mine.mine;
     } in
-    let one = caller_kept s h s.words s.homes id c d h.counts at (same_counts c.number h.counts) mine.own h.room h.newest h.counted fits in
-    spent_kept (state s.words s.homes (set s.views id (Caller d))) other one (apart_note s.views h.seat other h.knows n h.there was)
+    let one = caller_kept s h s.words s.homes id c d h.counts at refl (same_counts c.number h.counts) mine.own h.room h.newest h.counted fits in
+    spent_kept (state s.words s.homes (set s.views id (Caller d))) other one n there (apart_note s.views h.seat other h.knows n h.there was)
 
 counted_note : (ws : List ℕ) (k : KernelView) (t : Counts) (n : NoteView) → FitsNote k t n → IsCounted ws k t → IsCounted ws (kernel_with_note k n) t
 counted_note ws k t n f h = record {
@@ -406,8 +447,8 @@ kernel_hears id k other n s h at apart there =
     let theirs : FitsNote h.knows h.counts n = h.each other (Note n) was in
     let l = kernel_with_note h.knows n in
     let grows : Grows h.knows l = record { fronts = λ f p. p; log = prefix_same h.knows.log; made = omega arith } in
-    let one = kernel_kept s h s.words s.homes id l same grows h.room h.newest h.rises (counted_note s.words h.knows h.counts n theirs h.counted) (ended_grown h.seat h.knows l h.counts h.knows.ended grows h.ended) in
-    let two = spent_kept (state s.words s.homes (set s.views id (Kernel l))) other one (apart_note s.views h.seat other h.knows n h.there was) in
+    let one = kernel_kept s h s.words s.homes id l same grows h.room h.newest h.rises (counted_note s.words h.knows h.counts n theirs h.counted) (ended_grown h.seat h.knows l h.counts h.knows.ended grows h.ended) refl refl in
+    let two = spent_kept (state s.words s.homes (set s.views id (Kernel l))) other one n (subst (λ (x : KernelView). get_elem? (set s.views id (Kernel (kernel_with_note x n))) other ≡ some (Note n)) is there) (apart_note s.views h.seat other h.knows n h.there was) in
     subst (λ (x : KernelView). Kept (state s.words s.homes (set (set s.views id (Kernel (kernel_with_note x n))) other Spent))) (sym is) two
 
 -- the kernel takes in a caller that has ended
@@ -451,6 +492,15 @@ takes_it s h id other c same was =
           (each_set h.seat h.knows l h.counts h.counts s.views id (Kernel l) h.each (λ by v a f. view_grown h.seat h.knows l h.counts by v grows f) same)
           (λ by v a f. view_apart h.seat l c.number h.counts u other by v differs theirs.own a f)
           tt;
+      all = λ n pos low. ⊎_elim
+          (λ (x : HasSeat s.views h.counts n). dite (ℕ_discrete n c.number)
+          (λ (e : n ≡ c.number). inr (ended_last h.knows.ended c n (sym e)))
+          (λ (a : n ≢ c.number).
+          let y = seat_set s.views h.counts h.counts n id (Kernel l) refl (λ (e : h.counts.seat_of n ≡ id). not_kernel s.views h.counts n h.seat h.knows h.there x (e ∙ same)) x in
+          inl (seat_set views h.counts u n other Spent (differs.seats n a) (not_caller s.views h.counts n other c was (λ (z : c.number ≡ n). a (sym z)) x) y)))
+          (λ (x : IsEnded h.knows.ended n). inr (ended_more h.knows.ended c n x))
+          (h.all n pos low);
+      differ = differ_push h.knows.ended c h.differ (λ (i : IsEnded h.knows.ended c.number). apart (sym (ended_seat h.seat h.knows h.counts h.knows.ended c.number h.ended i) ∙ theirs.own));
     }
 
 pub kernel_takes : (id : ℕ) (k : KernelView) (other : ℕ) (c : CallerView) → Joins Kept id (Kernel k) other (Caller c) (Kernel (with_ended k c)) Spent

@@ -81,6 +81,22 @@ pub record IsCounted (words : List ℕ) (k : KernelView) (t : Counts) : Type 0 w
   pub known_len : length k.known ≡ k.made + 1
   pub told_len : length k.told ≡ k.made + 1
 
+-- a caller of this number has ended
+abbrev pub IsEnded : List CallerView → ℕ → Type 0
+IsEnded [] n = ⊥
+IsEnded (c ∷ cs) n = (c.number ≡ n) ⊎ IsEnded cs n
+
+-- no two of these have one number
+abbrev pub AllDiffer : List CallerView → Type 0
+AllDiffer [] = Unit {0}
+AllDiffer (c ∷ cs) = ¬ (IsEnded cs c.number) × AllDiffer cs
+
+-- the caller of this number has its seat
+pub record HasSeat (views : List View) (t : Counts) (n : ℕ) : Type 0 where
+  pub caller : CallerView
+  pub there : get_elem? views (t.seat_of n) ≡ some (Caller caller)
+  pub number : caller.number ≡ n
+
 -- one seat is the kernel's, word 0 is the last front that it published, and each view fits
 pub record Kept (s : State ℕ View) : Type 0 where
   pub seat : ℕ
@@ -92,6 +108,9 @@ pub record Kept (s : State ℕ View) : Type 0 where
   pub rises : RisesFrom 0 knows.fronts
   pub counted : IsCounted s.words knows counts
   pub ended : AllFit seat knows counts knows.ended
+  -- each number up to those that were made is one caller's
+  pub all : (n : ℕ) → 0 < n → n ≤ knows.made → HasSeat s.views counts n ⊎ IsEnded knows.ended n
+  pub differ : AllDiffer knows.ended
   pub each : (by : ℕ) (v : View) → get_elem? s.views by ≡ some v → Fits seat knows counts by v
 
 abbrev pub first_view : View

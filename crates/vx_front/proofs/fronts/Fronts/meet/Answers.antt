@@ -22,5 +22,5 @@ returns-clause-later c =
 pub returns-clause-all : goal.returns-clause-all
 returns-clause-all c =
     meeting_calls c.args.kernel.now.knows c.look_as_kernel.new.kernel.knows c.args.caller.now.knows _
-        (ap (λ s. s.knows) c.look.ensures.same ∙ (c.tell_caller.ensures.knows ∙ (λ i. caller_with_note (c.tell_kernel.ensures.caller i).knows (kernel_note (c.tell_kernel.ensures.knows i)))))
-        (returns-clause-agree c)
+    (ap (λ s. s.knows) c.look.ensures.same ∙ (c.tell_caller.ensures.knows ∙ (λ i. caller_with_note (c.tell_kernel.ensures.caller i).knows (kernel_note (c.tell_kernel.ensures.knows i)))))
+    (returns-clause-agree c)
