@@ -82,7 +82,7 @@ module _ (index : Index) (images : List (List ℕ)) (s i : ℕ) (x : List ℕ) (
       let lacks : LacksAt (named index images) s i = lacks_named index images s i at in
       batch_set_new (named index images) s i x lacks.place lacks.other ∙ sym (named-insert index images i s x h.places)
 
-  pub place_for : LacksAt (bare index) s i → HasPlace (named index images) s → length index < 1024
+  pub place_for : LacksAt (bare index) s i → HasPlace (named index images) s → length index < 4096
   place_for at (inl has) = absurd ((lacks_named index images s i at).lacks has)
   place_for at (inr short) = omega (arith, short, length_named index images)
 
@@ -91,7 +91,7 @@ module _ (index : Index) (images : List (List ℕ)) (s i : ℕ) (x : List ℕ) (
       let more : List (List ℕ) = images ++ x ∷ [] in
       let longer : Index = insert index i (s, length images) in
       let count : length longer ≡ length index + 1 = length-insert index i (s, length images) (omega (arith, at.place.bound, length_bare index)) in
-      let room : length index < 1024 = place_for at place in
+      let room : length index < 4096 = place_for at place in
       let all : IsHomes (named longer more) = record {
         rising = subst (λ (l : List AfterImage). IsStrictlyIncreasing (sectors_of l)) (set_new at) (rising_set (named index images) s x (homes_named index images h.homes).rising);
         short = omega (arith, count, room, length_named longer more);

@@ -15,7 +15,7 @@ use vx_dev::{BlockDev, DevFault};
 pub type AfterImage = (SectorNo, [u8; 512]);
 
 /// The most sectors that are noted.
-const MOST_SECTORS: usize = 1024;
+const MOST_SECTORS: usize = 4096;
 
 /// The last committed after-image of each sector that is not home yet.
 #[derive(Drop)]
@@ -34,7 +34,7 @@ impl Model for Homes {
 
     ghost view = { λ h. named h.index.items h.images.items };
 
-    ghost invariant = { λ h. IsIndex h.index.items h.images.items × (1024 ≤ vec_capacity h.index) × (1024 ≤ vec_capacity h.images) };
+    ghost invariant = { λ h. IsIndex h.index.items h.images.items × (4096 ≤ vec_capacity h.index) × (4096 ≤ vec_capacity h.images) };
 }
 
 impl Homes {
@@ -47,7 +47,7 @@ impl Homes {
         Ok(Homes { index, images })
     }
 
-    /// The number of sectors that are noted, at most 1,024.
+    /// The number of sectors that are noted, at most 4,096.
     pub fn len(&self) -> u32
         ensures number { result ≡ length self.now }
         ensures homes { IsHomes self.now }
@@ -78,7 +78,7 @@ impl Homes {
 
     /// Notes all after-images of a batch.
     pub fn note_all(&mut self, batch: &[AfterImage])
-        requires { length self.old + length batch.now ≤ 1024 }
+        requires { length self.old + length batch.now ≤ 4096 }
         ensures { self.new ≡ with_notes self.old batch.now }
     {
         note_each(self, batch);
@@ -106,7 +106,7 @@ impl Homes {
 
 /// Notes one after-image after another.
 fn note_each(homes: &mut Homes, batch: &[AfterImage])
-    requires { length homes.old + length batch.now ≤ 1024 }
+    requires { length homes.old + length batch.now ≤ 4096 }
     ensures { homes.new ≡ with_notes homes.old batch.now }
 {
     for entry in batch {
@@ -121,7 +121,7 @@ fn put_each<D: BlockDev>(
     images: &[[u8; 512]],
 ) -> Result<(), DevFault>
     requires places { ArePlaces (length images.now) index.now }
-    requires short { length images.now ≤ 1024 }
+    requires short { length images.now ≤ 4096 }
     requires inside { All (λ e. e.0 < (D.state dev.old).size) (named index.now images.now) }
     ensures ran { OnOk result (Ran (puts (named index.now images.now)) (D.state dev.old) (D.state dev.new)) }
     ensures certain { OnOk result ((D.state dev.new).doubt ≡ (D.state dev.old).doubt) }

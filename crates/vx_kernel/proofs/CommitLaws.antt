@@ -6,11 +6,11 @@ use Rattle.std.specs.List.Sorted.{IsStrictlyIncreasing}
 use Rattle.vx_base.specs.declared.inode.DirEntry.{DirEntry}
 use Rattle.vx_dev.specs.Tape.{Tape, State as Device}
 use Rattle.vx_layout.specs.Dirs.{dir_bytes}
-use Rattle.vx_layout.specs.LogForms.{AfterImage, IsRecord, LogState, ReadsAs, log_length, records_of, overlay, overlay_all}
+use Rattle.vx_layout.specs.LogForms.{AfterImage, IsHomeSector, IsNameable, IsRecord, LogState, ReadsAs, log_length, records_of, overlay, overlay_all}
 use Rattle.vx_layout.specs.Places.{Volume, is_data, block_sector, sector_part}
 use Rattle.vx_log.specs.Batches.{sectors_of}
 use Rattle.vx_log.specs.Crashes.{IsApart, Stands, grown}
-use Rattle.vx_log.specs.Logs.{LogView, IsHomeSector, next_serial, closed, opened, has_spare}
+use Rattle.vx_log.specs.Logs.{LogView, next_serial, closed, opened, has_spare}
 use Rattle.vx_log.specs.Moments.{Told, Passed}
 use Rattle.vx_log.specs.Readings.{IsReading, Commits}
 use Rattle.vx_log.proofs.Passing.{passed_weaker, told_weaker}
@@ -26,19 +26,24 @@ use Rattle.vx_kernel.specs.Journals.{IsIdle, IsAtRest, IsChange, IsReadingOf, Is
 use Rattle.vx_kernel.specs.declared.journal.Journal.{Journal}
 use Rattle.vx_kernel.specs.JournalLaws.{unit_volume, JournalLaws}
 use Rattle.vx_kernel.proofs.EmptyLaws.{still_passed}
-use Rattle.vx_kernel.proofs.ReplayLaws.{or_left, or_right, or_cases, and_left, mounted_volume, says_of, low_not_noted, super_unnamed, kept_replays, blank, blank_reading, reading_at, nothing_told, told_cases, told_at, untold, passed_untold}
+use Rattle.vx_kernel.proofs.ReplayLaws.{or_left, or_right, or_cases, and_left, mounted_volume, says_of, low_not_noted, super_unnamed, kept_replays, blank, blank_reading, reading_at, nothing_told, told_cases, told_at, untold, passed_untold, serial_low}
 
 overlay_all-append : (rs qs : List (List AfterImage)) (s : ℕ) (x : List ℕ) → overlay_all (rs ++ qs) s x ≡ overlay_all qs s (overlay_all rs s x)
 overlay_all-append [] qs s x = refl
 overlay_all-append (r ∷ rs) qs s x = overlay_all-append rs qs s (overlay r s x)
 
-both_forms : (rs qs : List (List AfterImage)) → AllByRecursion IsRecord rs → AllByRecursion IsRecord qs → AllByRecursion IsRecord (rs ++ qs)
+both_forms : (rs qs : List (List AfterImage)) → AllByRecursion (IsRecord 1024 9220) rs → AllByRecursion (IsRecord 1024 9220) qs → AllByRecursion (IsRecord 1024 9220) (rs ++ qs)
 both_forms [] qs h k = k
 both_forms (r ∷ rs) qs h k = (h.0, both_forms rs qs h.1 k)
 
-low_sectors : (batch : List AfterImage) → AllByRecursion IsInside batch → AllByRecursion (λ s. s < 2 ^ 32) (sectors_of batch)
-low_sectors [] h = tt
-low_sectors (e ∷ batch) h = (let high : e.0 < 9220 = h.0.1 in omega (arith, high), low_sectors batch h.1)
+nameable : (batch : List AfterImage) → AllByRecursion IsInside batch → AllByRecursion (IsNameable 1024 9220) (sectors_of batch)
+nameable [] h = tt
+nameable (e ∷ batch) h = (
+  let low : 1028 ≤ e.0 = h.0.0 in
+  let high : e.0 < 9220 = h.0.1 in
+  record { home = inr (omega (arith, low)); inside = high; low = omega (arith, high) },
+  nameable batch h.1,
+)
 
 -- what a batch has right is metadata
 right_there : (p : Parsed) (batch : List AfterImage) (q : ℕ) → AllByRecursion (λ e. content_at unit_volume p e.0 ≡ Some e.1) batch → Contains (sectors_of batch) q → IsTrue (is_metadata unit_volume p q)
@@ -173,8 +178,9 @@ module _ (laws : JournalLaws) (old new : State) (batch : List AfterImage) (chang
           says = subst (λ (v : Volume). Says v (parsed_of new) next) (sym (mounted_volume new change.new_mounted)) says;
           superblock = or_left (r.is_metadata 0) (is_metadata unit_volume (parsed_of new) 0) k.superblock;
           superblock_is = contents_is 0 ∙ laws.notes.overlay_lacks batch 0 (r.contents 0) super_lacked ∙ k.superblock_is;
+          serial = serial_low r.serial;
           limit = omega (arith, limit, laws.length r.head batch);
-          form = both_forms r.records (records_of batch) k.form (laws.form batch (low_sectors batch inside));
+          form = both_forms r.records (records_of batch) k.form (laws.form 1024 9220 batch rising (nameable batch inside));
         }
 
     still_noted : (q : ℕ) (o : Option (List ℕ)) → noted_at batch q ≡ None → IsNoted r q o → IsNoted next q o
@@ -287,6 +293,7 @@ module _ (laws : JournalLaws) (s new : State) (batch : List AfterImage) (none : 
       says = subst (λ (v : Volume). Says v (parsed_of new) k.reading) (sym (mounted_volume new change.new_mounted)) (same_says k.reading k.is_reading);
       superblock = k.is_reading.superblock;
       superblock_is = k.is_reading.superblock_is;
+      serial = k.is_reading.serial;
       limit = k.is_reading.limit;
       form = k.is_reading.form;
     };

@@ -20,7 +20,7 @@ use Rattle.vx_model.specs.State.{State}
 use Rattle.vx_kernel.specs.Devices.{IsInside}
 use Rattle.vx_kernel.specs.Journals.{IsMounted, IsReadingOf, IsUnnamed, IsNoted, IsKept}
 use Rattle.vx_kernel.specs.JournalLaws.{JournalLaws}
-use Rattle.vx_kernel.proofs.ReplayLaws.{kept_replays, super_unnamed, blank, blank_reading, reading_at, nothing_told, told_cases, told_at, untold, passed_untold, ran_untold}
+use Rattle.vx_kernel.proofs.ReplayLaws.{kept_replays, super_unnamed, blank, blank_reading, reading_at, nothing_told, told_cases, told_at, untold, passed_untold, ran_untold, serial_low}
 
 -- where a noted sector stands
 place_of : (homes : List AfterImage) (q : ℕ) → Contains (sectors_of homes) q → (j : ℕ) × ((j < length homes) × ((d : AfterImage) → (get_or homes j d).0 ≡ q))
@@ -83,7 +83,7 @@ module _ (laws : JournalLaws) (s : State) (m : IsMounted s) (log : LogView) (sec
       blank_emptied none = passed (blank log) (blank_reading log) (nothing_told mid (AreHomesPut log.sectors (blank log)) (mid_untold none))
 
       emptied_reading : (t : Tape) (k : Rests t) → IsReadingOf s (emptied k.reading)
-      emptied_reading t k = record { says = record { sectors = k.is_reading.says.sectors; bytes = k.is_reading.says.bytes }; superblock = k.is_reading.superblock; superblock_is = k.is_reading.superblock_is; limit = k.is_reading.limit; form = tt }
+      emptied_reading t k = record { says = record { sectors = k.is_reading.says.sectors; bytes = k.is_reading.says.bytes }; superblock = k.is_reading.superblock; superblock_is = k.is_reading.superblock_is; serial = serial_low k.reading.serial; limit = k.is_reading.limit; form = tt }
 
       pub empty_passed : Told a Rests → Passed Now a b
       empty_passed h = elim (told_cases a Rests h) [

@@ -6,10 +6,10 @@ use Rattle.vx_dev.specs.declared.device.Operation.{Operation}
 use Rattle.vx_dev.specs.declared.device.Operation.TheVariants.{Put, Barrier}
 use Rattle.vx_dev.specs.Laws.{TapeLaws}
 use Rattle.vx_dev.specs.Tape.{Tape, State, Did, did, MayHold, now, Settles, IsImage}
-use Rattle.vx_layout.specs.LogForms.{LogState, head_sector}
+use Rattle.vx_layout.specs.LogForms.{IsHomeSector, LogState, head_sector}
 use Rattle.vx_layout.specs.Places.{Volume}
 use Rattle.vx_layout.specs.Supers.{super_bytes}
-use Rattle.vx_log.specs.Logs.{fresh_log, IsHomeSector}
+use Rattle.vx_log.specs.Logs.{fresh_log}
 use Rattle.vx_log.specs.Moments.{Told}
 use Rattle.vx_model.specs.Contents.{parsed_of, IsFormatted}
 use Rattle.vx_model.specs.Images as model
@@ -165,6 +165,7 @@ module _ (t : Tape) (new : IsNewImage t) where
       };
       superblock = refl;
       superblock_is = refl;
+      serial = omega arith;
       limit = omega arith;
       form = tt;
     }

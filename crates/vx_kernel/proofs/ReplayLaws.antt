@@ -8,9 +8,9 @@ use Rattle.vx_dev.specs.declared.device.Operation.{Operation}
 use Rattle.vx_dev.specs.Tape.{Tape, State as Device}
 use Rattle.vx_layout.specs.LogForms.{AfterImage, IsRecord, LogState, ReadsAs, overlay_all, log_sectors}
 use Rattle.vx_layout.specs.Places.{block_sector}
-use Rattle.vx_layout.specs.Supers.{super_bytes}
+use Rattle.vx_layout.specs.Supers.{IsSuper, super_bytes}
 use Rattle.vx_log.specs.Batches.{sectors_of}
-use Rattle.vx_log.specs.Logs.{LogView}
+use Rattle.vx_log.specs.Logs.{LogView, next_serial}
 use Rattle.vx_log.specs.Moments.{Told, Always, Passed}
 use Rattle.vx_log.specs.Readings.{IsReading}
 use Rattle.vx_log.specs.Runs.{did_all, Ran}
@@ -106,6 +106,9 @@ ran_untold Q ops a b none ran = record { ops = ops; told = ran.told; always = su
 
 -- ---- readings
 
+pub serial_low : (serial : ℕ) → next_serial serial < 2 ^ 64
+serial_low serial = omega arith
+
 -- a reading with no record and no metadata, of a device that tells nothing
 pub blank : LogView → LogState
 blank log = record { serial = log.serial; tail = log.tail; head = log.head; records = []; is_metadata = λ _. false; contents = λ _. [] }
@@ -151,22 +154,28 @@ module _ (laws : JournalLaws) where
 
   -- ---- images
 
-  pub replays : (s : State) (clean : Bool) (r : LogState) (image : ℕ → List ℕ) → r.head ≤ 2 ^ 62 → AllByRecursion IsRecord r.records → IsMounted s → Says unit_volume (parsed_of s) r → image 0 ≡ super_bytes (superblock_of clean) → ReadsAs 1024 r image → ReplaysAs image s.tree
-  replays s clean r image limit form m says super reads =
+  pub replays : (s : State) (clean : Bool) (r : LogState) (image : ℕ → List ℕ) → r.serial < 2 ^ 64 → r.head ≤ 2 ^ 62 → AllByRecursion (IsRecord 1024 9220) r.records → IsMounted s → Says unit_volume (parsed_of s) r → image 0 ≡ super_bytes (superblock_of clean) → overlay_all r.records 0 (image 0) ≡ image 0
+      → ReadsAs 1024 r image → ReplaysAs image s.tree
+  replays s clean r image serial limit form m says super unnamed reads =
       let over : ℕ → List ℕ = λ q. overlay_all r.records q (image q) in
       let stands = laws.says_stands (parsed_of s) r image says reads in
+      let is_super : IsSuper (superblock_of clean) = record { log_low = lit≤ tt; log_high = lit≤ tt; units_low = lit≤ tt; units_high = lit≤ tt } in
       record {
-        superblock = superblock_of clean;
-        is_super = record { log_low = lit≤ tt; log_high = lit≤ tt; units_low = lit≤ tt; units_high = lit≤ tt };
-        superblock_is = super;
+        first = superblock_of clean;
+        is_first = is_super;
+        first_is = super;
         records = r.records;
-        log = record { serial = r.serial; tail = r.tail; head = r.head; limit = omega (arith, limit); form = form; head_is = reads.head_is; ends = reads.ends; fits = reads.fits; whole = reads.whole };
+        superblock = superblock_of clean;
+        is_super = is_super;
+        superblock_is = unnamed ∙ super;
+        same_log = refl;
+        log = record { serial = r.serial; tail = r.tail; head = r.head; serial_limit = serial; limit = limit; form = form; head_is = reads.head_is; ends = reads.ends; fits = reads.fits; whole = reads.whole };
         reads = subst (λ v. ImageReadsAs v over s.tree) (mounted_volume s m) (laws.reads s over m.laid_out (subst (λ v. images.Stands v (parsed_of s) over) (sym (mounted_volume s m)) stands));
       }
 
   pub kept_replays : (s : State) (r : LogState) → IsMounted s → IsReadingOf s r → IsUnnamed r.records 0 → (image : ℕ → List ℕ) → ReadsAs 1024 r image → ReplaysAs image s.tree
   kept_replays s r m k unnamed image reads =
-      replays s false r image k.limit k.form m (says_of s r m k) (sym (unnamed (image 0)) ∙ reads.metadata 0 k.superblock ∙ k.superblock_is) reads
+      replays s false r image k.serial k.limit k.form m (says_of s r m k) (sym (unnamed (image 0)) ∙ reads.metadata 0 k.superblock ∙ k.superblock_is) (unnamed (image 0)) reads
 
   -- ---- blocks that no longer wait
 
@@ -180,6 +189,7 @@ module _ (laws : JournalLaws) where
       says = subst (λ (p : Parsed). Says (volume s.layout) p k.reading) (sym (laws.released s upto)) k.is_reading.says;
       superblock = k.is_reading.superblock;
       superblock_is = k.is_reading.superblock_is;
+      serial = k.is_reading.serial;
       limit = k.is_reading.limit;
       form = k.is_reading.form;
     };

@@ -1,5 +1,5 @@
 -- The superblock of a clean file system is written, behind an empty log.
-use Rattle.std.proofs.Common.{◌≡◌, ◌⊎◌, ℕ, ◌≤◌, ◌^◌, Bool, true, false, List, [], Option, Some, None, refl, sym, ap, subst, ◌∙◌, arith, inl, inr, lit≤}
+use Rattle.std.proofs.Common.{◌≡◌, ◌⊎◌, ℕ, ◌<◌, ◌≤◌, ◌^◌, Bool, true, false, List, [], Option, Some, None, refl, sym, ap, subst, ◌∙◌, arith, inl, inr, lit≤}
 use Rattle.std.specs.Prelude.{◌&&◌, ◌==◌, not, IfSome, option_map}
 use Rattle.std.specs.List.{AllByRecursion}
 use Rattle.std.proofs.lemmas.Bool.{ne_eqb}
@@ -30,8 +30,9 @@ pub record IsClosing (s : State) (t : Tape) : Type 0 where
   pub records : reading.records ≡ []
   pub tail : reading.tail ≡ reading.head
   pub not_super : reading.is_metadata 0 ≡ false
+  pub serial : reading.serial < 2 ^ 64
   pub limit : reading.head ≤ 2 ^ 62
-  pub form : AllByRecursion IsRecord reading.records
+  pub form : AllByRecursion (IsRecord 1024 9220) reading.records
   pub stands : Stands 1024 reading t
   pub superblock : (x : List ℕ) → MayHold t 0 x → (x ≡ super_bytes (superblock_of false)) ⊎ (x ≡ super_bytes (superblock_of true))
 
@@ -50,6 +51,7 @@ module _ (laws : JournalLaws) (s : State) (m : IsMounted s) where
         records = level_records log homes s t level k;
         tail = omega (arith, k.tail, k.head, level);
         not_super = and_false (r.is_metadata 0);
+        serial = k.is_reading.serial;
         limit = k.is_reading.limit;
         form = k.is_reading.form;
         stands = laws.fewer r less t (λ q there. and_left (r.is_metadata q) (not (q == 0)) there) k.stands;
@@ -63,6 +65,7 @@ module _ (laws : JournalLaws) (s : State) (m : IsMounted s) where
     records = k.records;
     tail = k.tail;
     not_super = k.not_super;
+    serial = k.serial;
     limit = k.limit;
     form = k.form;
     stands = laws.written k.reading t op 0 (super_bytes (superblock_of true)) w (record { no_record = λ i lt same. absurd (omega (arith, same)); decided = λ there. absurd (let wrong : true ≡ false = sym there ∙ k.not_super in cc) }) (λ same. omega (arith, same)) k.stands;
@@ -76,6 +79,7 @@ module _ (laws : JournalLaws) (s : State) (m : IsMounted s) where
     records = k.records;
     tail = k.tail;
     not_super = k.not_super;
+    serial = k.serial;
     limit = k.limit;
     form = k.form;
     stands = laws.barrier k.reading t k.stands;
@@ -85,9 +89,10 @@ module _ (laws : JournalLaws) (s : State) (m : IsMounted s) where
   closing_shows : (t : Tape) → IsClosing s t → (image : ℕ → List ℕ) → IsImage t image → ReplaysAs image s.tree
   closing_shows t k image is =
       let reads = laws.image_reads k.reading t image k.stands is in
+      let unnamed : overlay_all k.reading.records 0 (image 0) ≡ image 0 = ap (λ (rs : List (List AfterImage)). overlay_all rs 0 (image 0)) k.records in
       elim (k.superblock (image 0) (is 0)) [
-        | inl mounted ↦ replays laws s false k.reading image k.limit k.form m k.says mounted reads
-        | inr clean ↦ replays laws s true k.reading image k.limit k.form m k.says clean reads
+        | inl mounted ↦ replays laws s false k.reading image k.serial k.limit k.form m k.says mounted unnamed reads
+        | inr clean ↦ replays laws s true k.reading image k.serial k.limit k.form m k.says clean unnamed reads
       ]
 
   -- the superblock of a clean file system settles

@@ -1,11 +1,12 @@
 -- What a journal rests on: laws of the tape, of the log and of images, as it uses them.
 use Rattle.std.specs.Prelude.{◌≡◌, ◌≢◌, ◌⊎◌, ◌<◌, ◌≤◌, ◌^◌, ◌+◌, option_map, ℕ, Bool, false, IsTrue, List, length, Contains}
 use Rattle.std.specs.List.{AllByRecursion}
+use Rattle.std.specs.List.Sorted.{IsStrictlyIncreasing}
 use Rattle.vx_dev.specs.declared.device.Operation.{Operation}
 use Rattle.vx_dev.specs.declared.device.Operation.TheVariants.{Barrier}
 use Rattle.vx_dev.specs.Laws.{TapeLaws}
 use Rattle.vx_dev.specs.Tape.{Tape, State as Device, Writes, did, IsImage}
-use Rattle.vx_layout.specs.LogForms.{AfterImage, IsRecord, LogState, ReadsAs, log_length, body_of, records_of, overlay, overlay_all}
+use Rattle.vx_layout.specs.LogForms.{AfterImage, IsNameable, IsRecord, LogState, ReadsAs, log_length, body_of, records_of, overlay, overlay_all}
 use Rattle.vx_layout.specs.Dirs.{dir_bytes}
 use Rattle.vx_layout.specs.Places.{Volume, is_data, block_sector, sector_part}
 use Rattle.vx_layout.specs.Supers.{volume_of}
@@ -46,7 +47,7 @@ pub record JournalLaws : Type 0 where
   pub lacks : (batch : List AfterImage) (s : ℕ) (x : List ℕ) → (Contains (sectors_of batch) s → ⊥) → overlay batch s x ≡ x
   pub decides : (batch : List AfterImage) (s : ℕ) → Contains (sectors_of batch) s → IsDecided (records_of batch) s
   pub length : (position : ℕ) (batch : List AfterImage) → length (body_of position batch) ≡ log_length (length batch)
-  pub form : (batch : List AfterImage) → AllByRecursion (λ s. s < 2 ^ 32) (sectors_of batch) → AllByRecursion IsRecord (records_of batch)
+  pub form : (n size : ℕ) (batch : List AfterImage) → IsStrictlyIncreasing (sectors_of batch) → AllByRecursion (IsNameable n size) (sectors_of batch) → AllByRecursion (IsRecord n size) (records_of batch)
   -- ---- the log
   pub image_reads : (r : LogState) (t : Tape) (image : ℕ → List ℕ) → Stands 1024 r t → IsImage t image → ReadsAs 1024 r image
   pub written : (r : LogState) (t : Tape) (op : Operation) (u : ℕ) (bytes : List ℕ) → Writes op u bytes → IsFree 1024 r u → u ≢ 2 → Stands 1024 r t → Stands 1024 r (did op t)

@@ -60,8 +60,9 @@ pub record IsReadingOf (s : State) (r : LogState) : Type 0 where
   pub says : Says (volume s.layout) (parsed_of s) r
   pub superblock : IsTrue (r.is_metadata 0)
   pub superblock_is : r.contents 0 ≡ super_bytes (superblock_of false)
+  pub serial : r.serial < 2 ^ 64
   pub limit : r.head ≤ 2 ^ 62
-  pub form : AllByRecursion IsRecord r.records
+  pub form : AllByRecursion (IsRecord 1024 9220) r.records
 
 -- no record names the sector
 abbrev pub IsUnnamed : List (List AfterImage) → ℕ → Type 0

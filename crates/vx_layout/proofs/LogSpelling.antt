@@ -5,7 +5,7 @@ use Rattle.std.specs.List.{flat_map, AllByRecursion}
 use Rattle.std.proofs.lemmas.List.{take_at, drop_at, length-map}
 use Rattle.std.proofs.lemmas.Nat.{from_le_bytes-to_le_bytes_4, from_le_bytes-to_le_bytes_8}
 use Rattle.vx_layout.specs.Fields.{number_at}
-use Rattle.vx_layout.specs.LogForms.{AfterImage, IsRecord, head_sector, descriptor, log_sectors}
+use Rattle.vx_layout.specs.LogForms.{AfterImage, IsNameable, IsRecord, head_sector, descriptor, log_sectors}
 
 -- ---- head sectors
 
@@ -78,11 +78,15 @@ split xs ys us vs count e = (
   sym (drop_at xs us (length ys) count) ∙ ap (drop (length ys)) e ∙ drop_at ys vs (length ys) refl,
 )
 
-pub records_same : (position : ℕ) (rs qs : List (List AfterImage)) → AllByRecursion IsRecord rs → AllByRecursion IsRecord qs → log_sectors position rs ≡ log_sectors position qs → rs ≡ qs
-records_same position [] [] fr fq e = refl
-records_same position [] (q ∷ qs) fr fq e = absurd cc
-records_same position (r ∷ rs) [] fr fq e = absurd cc
-records_same position (r ∷ rs) (q ∷ qs) fr fq e =
+all_low : (n size : ℕ) (homes : List ℕ) → AllByRecursion (IsNameable n size) homes → AllByRecursion (λ s. s < 2 ^ 32) homes
+all_low n size [] h = tt
+all_low n size (s ∷ homes) h = (h.0.low, all_low n size homes h.1)
+
+pub records_same : (n size more position : ℕ) (rs qs : List (List AfterImage)) → AllByRecursion (IsRecord n size) rs → AllByRecursion (IsRecord n more) qs → log_sectors position rs ≡ log_sectors position qs → rs ≡ qs
+records_same n size more position [] [] fr fq e = refl
+records_same n size more position [] (q ∷ qs) fr fq e = absurd cc
+records_same n size more position (r ∷ rs) [] fr fq e = absurd cc
+records_same n size more position (r ∷ rs) (q ∷ qs) fr fq e =
     let homes_r : List ℕ = map (λ (e : AfterImage). e.0) r in
     let homes_q : List ℕ = map (λ (e : AfterImage). e.0) q in
     let images_r : List (List ℕ) = map (λ (e : AfterImage). e.1) r in
@@ -91,12 +95,12 @@ records_same position (r ∷ rs) (q ∷ qs) fr fq e =
     let next_q : List (List ℕ) = log_sectors (position + (1 + length q)) qs in
     let long_r : length homes_r ≡ length r = length-map r (λ (e : AfterImage). e.0) in
     let long_q : length homes_q ≡ length q = length-map q (λ (e : AfterImage). e.0) in
-    let homes : homes_r ≡ homes_q = descriptor_same position homes_r homes_q (omega (arith, fr.0.few, long_r)) (omega (arith, fq.0.few, long_q)) fr.0.homes fq.0.homes
+    let homes : homes_r ≡ homes_q = descriptor_same position homes_r homes_q (omega (arith, fr.0.few, long_r)) (omega (arith, fq.0.few, long_q)) (all_low n size homes_r fr.0.homes) (all_low n more homes_q fq.0.homes)
     (first_same (descriptor position homes_r) (descriptor position homes_q) (images_r ++ next_r) (images_q ++ next_q) e) in
     let count : length r ≡ length q = sym long_r ∙ ap length homes ∙ long_q in
     let images = split images_r images_q next_r next_q (length-map r (λ (e : AfterImage). e.1) ∙ count ∙ sym (length-map q (λ (e : AfterImage). e.1)))
     (rest_same (descriptor position homes_r) (descriptor position homes_q) (images_r ++ next_r) (images_q ++ next_q) e) in
     let one : r ≡ q = pairs_same r q homes images.0 in
     let place : next_r ≡ log_sectors (position + (1 + length q)) rs = ap (λ (n : ℕ). log_sectors (position + (1 + n)) rs) count in
-    let rest : rs ≡ qs = records_same (position + (1 + length q)) rs qs fr.1 fq.1 (sym place ∙ images.1) in
+    let rest : rs ≡ qs = records_same n size more (position + (1 + length q)) rs qs fr.1 fq.1 (sym place ∙ images.1) in
     λ i. one i ∷ rest i

@@ -1,7 +1,8 @@
 -- How the intent log is spelled, and what an image with a log reads as.
-use Rattle.std.specs.Prelude.{◌≡◌, ◌==◌, ◌<◌, ◌≤◌, ◌+◌, ◌-◌, ◌*◌, ◌%◌, ◌/◌, ◌^◌, ℕ, zero, suc, Bool, IsTrue, List, [], ◌∷◌, ◌++◌, length, map, take, drop, get_or, replicate, if◌then◌else◌}
+use Rattle.std.specs.Prelude.{◌≡◌, ◌⊎◌, ◌==◌, ◌<◌, ◌≤◌, ◌+◌, ◌-◌, ◌*◌, ◌%◌, ◌/◌, ◌^◌, ℕ, zero, suc, Bool, IsTrue, List, [], ◌∷◌, ◌++◌, length, map, take, drop, get_or, replicate, if◌then◌else◌}
 use Rattle.std.specs.Int.{w32, w64, to_le_bytes}
 use Rattle.std.specs.List.{flat_map, AllByRecursion}
+use Rattle.std.specs.List.Sorted.{IsStrictlyIncreasing}
 
 -- a sector's number and the bytes that it is to hold
 abbrev pub AfterImage : Type 0
@@ -32,10 +33,26 @@ descriptor position homes =
 abbrev pub record_sectors : ℕ → List AfterImage → List (List ℕ)
 record_sectors position record_ = descriptor position (map (λ e. e.0) record_) ∷ map (λ e. e.1) record_
 
--- what a descriptor can name
-pub record IsRecord (record_ : List AfterImage) : Type 0 where
+-- a home sector is sector 0 or lies behind the log of n sectors
+abbrev pub IsHomeSector : ℕ → ℕ → Type 0
+IsHomeSector n s = (s ≡ 0) ⊎ (4 + n ≤ s)
+
+-- what a descriptor may name, on a device of so many sectors
+pub record IsNameable (n size s : ℕ) : Type 0 where
+  pub home : IsHomeSector n s
+  pub inside : s < size
+  pub low : s < 2 ^ 32
+
+-- the sectors of after-images
+abbrev pub homes_of : List AfterImage → List ℕ
+homes_of record_ = map (λ e. e.0) record_
+
+-- a record of a log of n sectors, on a device of so many sectors
+pub record IsRecord (n size : ℕ) (record_ : List AfterImage) : Type 0 where
+  pub some : 1 ≤ length record_
   pub few : length record_ ≤ 124
-  pub homes : AllByRecursion (λ s. s < 2 ^ 32) (map (λ e. e.0) record_)
+  pub rising : IsStrictlyIncreasing (homes_of record_)
+  pub homes : AllByRecursion (IsNameable n size) (homes_of record_)
 
 abbrev pub log_sectors : ℕ → List (List AfterImage) → List (List ℕ)
 log_sectors position [] = []

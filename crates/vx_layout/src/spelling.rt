@@ -14,5 +14,5 @@ pub fn super_spelling()
 pub fn log_spelling()
     ensures head { (serial tail head serial2 tail2 head2 : ℕ) → tail < 2 ^ 64 → head < 2 ^ 64 → tail2 < 2 ^ 64 → head2 < 2 ^ 64
         → head_sector serial tail head ≡ head_sector serial2 tail2 head2 → (tail ≡ tail2) × (head ≡ head2) }
-    ensures records { (position : ℕ) (rs qs : List (List AfterImage)) → AllByRecursion IsRecord rs → AllByRecursion IsRecord qs → log_sectors position rs ≡ log_sectors position qs → rs ≡ qs }
+    ensures records { (n size more position : ℕ) (rs qs : List (List AfterImage)) → AllByRecursion (IsRecord n size) rs → AllByRecursion (IsRecord n more) qs → log_sectors position rs ≡ log_sectors position qs → rs ≡ qs }
 {}

@@ -32,7 +32,7 @@ RisesFrom-first : (low : ℕ) (b : List AfterImage) → RisesFrom low b → 0 < 
 RisesFrom-first low [] h some = absurd (omega (arith, some))
 RisesFrom-first low (e ∷ es) h some = h.0
 
-rising : (low : ℕ) (b : List AfterImage) → RisesFrom low b → IsStrictlyIncreasing (sectors_of b)
+pub rising : (low : ℕ) (b : List AfterImage) → RisesFrom low b → IsStrictlyIncreasing (sectors_of b)
 rising low [] h k lt = absurd (omega (arith, lt))
 rising low (e ∷ es) h zero lt =
     let first : e.0 + 1 ≤ get_or (sectors_of es) 0 0 = RisesFrom-first (e.0 + 1) es h.1 (omega (arith, lt, length-map es (λ (x : AfterImage). x.0))) in

@@ -1,8 +1,8 @@
 -- What the images that a crash may leave are read as, from one operation to the next.
 use Rattle.std.specs.Prelude.{◌≡◌, ◌≢◌, ◌⊎◌, ◌<◌, ◌≤◌, ◌+◌, ℕ, Bool, IsTrue, List, [], ◌++◌, length, get_or}
 use Rattle.vx_dev.specs.Tape.{Tape, MayHold, Settles}
-use Rattle.vx_layout.specs.LogForms.{AfterImage, LogState, log_at, log_sectors, overlay_all, head_of, live}
-use Rattle.vx_log.specs.Logs.{IsHomeSector, next_serial}
+use Rattle.vx_layout.specs.LogForms.{AfterImage, IsHomeSector, LogState, log_at, log_sectors, overlay_all, head_of, live}
+use Rattle.vx_log.specs.Logs.{next_serial}
 
 -- metadata sectors are neither the head sector nor in the log
 abbrev pub IsApart : ℕ → (ℕ → Bool) → Type 0

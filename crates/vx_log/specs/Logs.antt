@@ -1,6 +1,6 @@
 -- The intent log as its callers see it.
 use Rattle.std.specs.Prelude.{◌≡◌, ◌⊎◌, ◌==◌, ◌&&◌, ◌<◌, ◌≤◌, ◌+◌, ◌%◌, ◌^◌, min, ℕ, Bool, true, false, List, [], ◌∷◌, ◌++◌, length, filter, nat_le, Option, Some, None, IfSome, is_none, All, Contains, slice_range}
-use Rattle.vx_layout.specs.LogForms.{AfterImage, log_length, body_of}
+use Rattle.vx_layout.specs.LogForms.{AfterImage, IsHomeSector, log_length, body_of}
 use Rattle.vx_log.specs.Batches.{IsBatch}
 use Rattle.vx_log.specs.Runs.{log_writes}
 use Rattle.vx_log.specs.declared.log.Closing.{Closing}
@@ -29,10 +29,6 @@ AreAfter start (next ∷ starts) head = (start + 2 ≤ next) × AreAfter next st
 abbrev pub AreStarts : ℕ → List ℕ → ℕ → Type 0
 AreStarts tail [] head = tail ≡ head
 AreStarts tail (start ∷ starts) head = (tail ≡ start) × AreAfter start starts head
-
--- a home sector is sector 0 or lies behind the log
-abbrev pub IsHomeSector : ℕ → ℕ → Type 0
-IsHomeSector n s = (s ≡ 0) ⊎ (4 + n ≤ s)
 
 -- what each batch is that is being written into a log of n sectors
 pub record IsClosing (n tail head : ℕ) (closing : Closing) : Type 0 where

@@ -1,9 +1,9 @@
 //! Whole commits, and the emptying of the log.
 ghost use Rattle.std.specs.Prelude.{◌≡◌, ◌⊎◌, ◌+◌, ◌<◌, ◌≤◌, ◌^◌, ℕ, Bool, Some, IsTrue, IsSome, IsNone, OnOk, OnErr, List, length, All, option_map};
 ghost use Rattle.vx_base.specs.Faults.{HasCause};
-ghost use Rattle.vx_layout.specs.LogForms.{AfterImage, LogState, ReadsAs, log_length, records_of, body_of};
+ghost use Rattle.vx_layout.specs.LogForms.{AfterImage, IsHomeSector, LogState, ReadsAs, log_length, records_of, body_of};
 ghost use Rattle.vx_log.specs.Crashes.{Stands, grown, emptied};
-ghost use Rattle.vx_log.specs.Logs.{IsHomeSector, closed, opened, advanced, is_body_out};
+ghost use Rattle.vx_log.specs.Logs.{closed, opened, advanced, is_body_out};
 ghost use Rattle.vx_log.specs.Moments.{Told, Passed};
 ghost use Rattle.vx_log.specs.Readings.{IsReading, Commits};
 ghost use Rattle.vx_log.specs.Stages.{IsBodyPut, IsToPut, AreHomesPut};

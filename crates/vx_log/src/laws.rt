@@ -1,10 +1,11 @@
 //! What a crash leaves of a log, as laws over the device's operations.
 ghost use Rattle.std.specs.Prelude.{◌≡◌, ◌≢◌, ◌⊎◌, ◌==◌, ◌<◌, ◌≤◌, ◌+◌, ◌-◌, ◌^◌, ℕ, Bool, IsTrue, List, [], ◌++◌, length, get_or, if◌then◌else◌, slice_range, Contains};
 ghost use Rattle.std.specs.List.{AllByRecursion};
+ghost use Rattle.std.specs.List.Sorted.{IsStrictlyIncreasing};
 ghost use Rattle.vx_dev.specs.Tape.{Tape, State, Did, Failed, Writes, IsImage, did};
 ghost use Rattle.vx_dev.specs.declared.device.Operation.{Operation};
 ghost use Rattle.vx_dev.specs.declared.device.Operation.TheVariants.{Put, Barrier};
-ghost use Rattle.vx_layout.specs.LogForms.{AfterImage, IsRecord, LogState, ReadsAs, log_at, log_sectors, log_length, body_of, records_of, overlay, overlay_all, head_of, head_sector};
+ghost use Rattle.vx_layout.specs.LogForms.{AfterImage, IsNameable, IsRecord, LogState, ReadsAs, log_at, log_sectors, log_length, body_of, records_of, overlay, overlay_all, head_of, head_sector};
 ghost use Rattle.vx_log.specs.Batches.{sectors_of, batch_set, IsBatch};
 ghost use Rattle.vx_log.specs.Crashes.{IsApart, Holds, Stands, Either, Turns, IsDecided, IsFree, grown, Covers, trimmed, emptied, IsPut, IsCertainBody, IsPutHome, IsStableHome, IsHome, IsHomeBut};
 ghost use Rattle.vx_log.specs.Logs.{next_serial};
@@ -20,7 +21,7 @@ pub fn batch_laws()
     ensures lacks { (batch : List AfterImage) (s : ℕ) (x : List ℕ) → (Contains (sectors_of batch) s → ⊥) → overlay batch s x ≡ x }
     ensures decides { (batch : List AfterImage) (s : ℕ) → Contains (sectors_of batch) s → IsDecided (records_of batch) s }
     ensures length { (position : ℕ) (batch : List AfterImage) → length (body_of position batch) ≡ log_length (length batch) }
-    ensures form { (batch : List AfterImage) → AllByRecursion (λ s. s < 2 ^ 32) (sectors_of batch) → AllByRecursion IsRecord (records_of batch) }
+    ensures form { (n size : ℕ) (batch : List AfterImage) → IsStrictlyIncreasing (sectors_of batch) → AllByRecursion (IsNameable n size) (sectors_of batch) → AllByRecursion (IsRecord n size) (records_of batch) }
 {}
 
 /// What an image that a crash may leave is read as.

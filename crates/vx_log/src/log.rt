@@ -4,8 +4,9 @@ ghost use Rattle.vx_base.specs.Faults.{HasCause};
 ghost use Rattle.vx_dev.specs.Tape.{Did, Failed};
 ghost use Rattle.vx_dev.specs.declared.device.Operation.TheVariants.{Put};
 ghost use Rattle.vx_layout.specs.LogForms as forms;
+ghost use Rattle.vx_layout.specs.LogForms.{IsHomeSector};
 ghost use Rattle.vx_log.specs.Runs.{Ran, BrokeOff, puts};
-ghost use Rattle.vx_log.specs.Logs.{LogView, IsLog, IsHomeSector, IsBoundary, next_serial, fresh_log, closed, closing_length, stage_writes, after_stage, is_body_out, opened, advanced, has_spare};
+ghost use Rattle.vx_log.specs.Logs.{LogView, IsLog, IsBoundary, next_serial, fresh_log, closed, closing_length, stage_writes, after_stage, is_body_out, opened, advanced, has_spare};
 
 use crate::batch::Batch;
 use crate::body::log_length;

@@ -99,6 +99,7 @@ kept_same edits waiting s new place t log homes tape first last touched none wai
         says = says_same (volume new.layout) (parsed_of s) (parsed_of new) kept.reading batch says;
         superblock = kept.is_reading.superblock;
         superblock_is = kept.is_reading.superblock_is;
+        serial = kept.is_reading.serial;
         limit = kept.is_reading.limit;
         form = kept.is_reading.form;
       };
