@@ -1,19 +1,23 @@
 -- What stands in a log says its records.
-use Rattle.std.proofs.Common.{◌≡◌, ℕ, zero, suc, ◌+◌, ◌<◌, ◌≤◌, ◌^◌, List, [], ◌∷◌, ◌++◌, length, map, take, drop, refl, sym, ap, subst, ◌∙◌, arith}
+use Rattle.std.proofs.Common.{◌≡◌, ℕ, zero, suc, ◌+◌, ◌-◌, ◌*◌, ◌<◌, ◌≤◌, ◌^◌, List, [], ◌∷◌, ◌++◌, length, map, take, drop, replicate, refl, sym, ap, subst, ◌∙◌, arith, append_assoc, length-append}
 use Rattle.std.specs.Int.{w32, w64, from_le_bytes, to_le_bytes}
 use Rattle.std.specs.List.{flat_map, AllByRecursion}
 use Rattle.std.proofs.lemmas.List.{take_at, drop_at, length-map}
 use Rattle.std.proofs.lemmas.Nat.{from_le_bytes-to_le_bytes_4, from_le_bytes-to_le_bytes_8}
 use Rattle.vx_layout.specs.Fields.{number_at}
-use Rattle.vx_layout.specs.LogForms.{AfterImage, IsNameable, IsRecord, head_sector, descriptor, log_sectors}
+use Rattle.vx_layout.specs.LogForms.{AfterImage, IsNameable, IsRecord, record_magic, head_sector, descriptor, numbers_at, log_sectors}
 
 -- ---- head sectors
 
-head_tail : (serial tail head : ℕ) → tail < 2 ^ 64 → number_at w64 16 (head_sector serial tail head) ≡ tail
+pub head_serial : (serial tail head : ℕ) → serial < 2 ^ 64 → number_at w64 8 (head_sector serial tail head) ≡ serial
+unfolding head_sector number_at
+head_serial serial tail head lt = from_le_bytes-to_le_bytes_8 serial lt
+
+pub head_tail : (serial tail head : ℕ) → tail < 2 ^ 64 → number_at w64 16 (head_sector serial tail head) ≡ tail
 unfolding head_sector number_at
 head_tail serial tail head lt = from_le_bytes-to_le_bytes_8 tail lt
 
-head_head : (serial tail head : ℕ) → head < 2 ^ 64 → number_at w64 24 (head_sector serial tail head) ≡ head
+pub head_head : (serial tail head : ℕ) → head < 2 ^ 64 → number_at w64 24 (head_sector serial tail head) ≡ head
 unfolding head_sector number_at
 head_head serial tail head lt = from_le_bytes-to_le_bytes_8 head lt
 
@@ -26,30 +30,33 @@ heads_same serial tail head serial2 tail2 head2 lt lt_head lt2 lt_head2 e = (
 
 -- ---- descriptors
 
--- so many numbers of four bytes
-abbrev numbers_in : ℕ → List ℕ → List ℕ
-numbers_in zero bytes = []
-numbers_in (suc n) bytes = from_le_bytes w32 (take 4 bytes) ∷ numbers_in n (drop 4 bytes)
+-- the numbers that stand behind some bytes
+numbers_again : (front homes rest : List ℕ) → AllByRecursion (λ s. s < 2 ^ 32) homes → numbers_at (length homes) (length front) (front ++ (flat_map (to_le_bytes w32) homes ++ rest)) ≡ homes
+unfolding number_at
+numbers_again front [] rest h = refl
+numbers_again front (s ∷ homes) rest h =
+    let bytes : List ℕ = to_le_bytes w32 s in
+    let others : List ℕ = flat_map (to_le_bytes w32) homes ++ rest in
+    let whole : List ℕ = front ++ (bytes ++ others) in
+    let first : from_le_bytes w32 (drop (length front) whole) ≡ s = ap (from_le_bytes w32) (drop_at front (bytes ++ others) (length front) refl) ∙ from_le_bytes-to_le_bytes_4 s h.0 in
+    let place : length (front ++ bytes) ≡ length front + 4 = length-append front bytes in
+    let more : numbers_at (length homes) (length front + 4) whole ≡ homes =
+    (λ i. numbers_at (length homes) (sym place i) (sym (append_assoc front bytes others) i)) ∙ numbers_again (front ++ bytes) homes rest h.1 in
+    λ i. first i ∷ more i
 
-numbers_again : (homes rest : List ℕ) → AllByRecursion (λ s. s < 2 ^ 32) homes → numbers_in (length homes) (flat_map (to_le_bytes w32) homes ++ rest) ≡ homes
-numbers_again [] rest h = refl
-numbers_again (s ∷ homes) rest h =
-    let first : from_le_bytes w32 (to_le_bytes w32 s) ≡ s = from_le_bytes-to_le_bytes_4 s h.0 in
-    λ i. first i ∷ numbers_again homes rest h.1 i
-
-count_again : (position : ℕ) (homes : List ℕ) → length homes ≤ 124 → number_at w32 4 (descriptor position homes) ≡ length homes
+pub count_again : (position : ℕ) (homes : List ℕ) → length homes ≤ 124 → number_at w32 4 (descriptor position homes) ≡ length homes
 unfolding descriptor number_at
 count_again position homes few = from_le_bytes-to_le_bytes_4 (length homes) (omega (arith, few))
 
-homes_again : (position : ℕ) (homes : List ℕ) → AllByRecursion (λ s. s < 2 ^ 32) homes → numbers_in (length homes) (drop 16 (descriptor position homes)) ≡ homes
+pub homes_again : (position : ℕ) (homes : List ℕ) → AllByRecursion (λ s. s < 2 ^ 32) homes → numbers_at (length homes) 16 (descriptor position homes) ≡ homes
 unfolding descriptor
-homes_again position homes h = numbers_again homes _ h
+homes_again position homes h = numbers_again (record_magic ++ to_le_bytes w32 (length homes) ++ to_le_bytes w64 position) homes (replicate (496 - 4 * length homes) 0) h
 
 descriptor_same : (position : ℕ) (xs ys : List ℕ) → length xs ≤ 124 → length ys ≤ 124 → AllByRecursion (λ s. s < 2 ^ 32) xs → AllByRecursion (λ s. s < 2 ^ 32) ys
     → descriptor position xs ≡ descriptor position ys → xs ≡ ys
 descriptor_same position xs ys few few2 low low2 e =
     let count : length xs ≡ length ys = sym (count_again position xs few) ∙ ap (number_at w32 4) e ∙ count_again position ys few2 in
-    sym (homes_again position xs low) ∙ (λ i. numbers_in (count i) (drop 16 (e i))) ∙ homes_again position ys low2
+    sym (homes_again position xs low) ∙ (λ i. numbers_at (count i) 16 (e i)) ∙ homes_again position ys low2
 
 -- ---- records
 

@@ -3,6 +3,7 @@ use Rattle.std.specs.Prelude.{◌≡◌, ◌⊎◌, ◌==◌, ◌<◌, ◌≤◌
 use Rattle.std.specs.Int.{w32, w64, to_le_bytes}
 use Rattle.std.specs.List.{flat_map, AllByRecursion}
 use Rattle.std.specs.List.Sorted.{IsStrictlyIncreasing}
+use Rattle.vx_layout.specs.Fields.{number_at}
 
 -- a sector's number and the bytes that it is to hold
 abbrev pub AfterImage : Type 0
@@ -28,6 +29,11 @@ head_sector serial tail head = head_magic ++ to_le_bytes w64 serial ++ to_le_byt
 unfoldable pub descriptor : ℕ → List ℕ → List ℕ
 descriptor position homes =
     record_magic ++ to_le_bytes w32 (length homes) ++ to_le_bytes w64 position ++ flat_map (to_le_bytes w32) homes ++ replicate (496 - 4 * length homes) 0
+
+-- so many numbers of four bytes, from a place on
+abbrev pub numbers_at : ℕ → ℕ → List ℕ → List ℕ
+numbers_at zero at s = []
+numbers_at (suc n) at s = number_at w32 at s ∷ numbers_at n (at + 4) s
 
 -- a record as it stands in the log
 abbrev pub record_sectors : ℕ → List AfterImage → List (List ℕ)

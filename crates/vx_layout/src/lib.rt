@@ -8,6 +8,6 @@ mod superblock;
 mod volume;
 
 pub use sheet::Sheet;
-pub use spelling::{log_spelling, super_spelling};
+pub use spelling::{log_fields, log_spelling, super_spelling};
 pub use superblock::{BadSuper, Super, sectors_needed};
 pub use volume::{block_sector, places, super_places};

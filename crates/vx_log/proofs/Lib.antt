@@ -14,3 +14,4 @@ pub mod Overlays
 pub mod StageRuns
 pub mod CommitRuns
 pub mod RecordForms
+pub mod ReadSectors

@@ -6,3 +6,4 @@ pub mod Moments
 pub mod Stages
 pub mod Readings
 pub mod RunLaws
+pub mod Ends

@@ -9,6 +9,7 @@ mod descriptor;
 mod head;
 mod laws;
 mod log;
+mod read;
 mod sheet;
 mod stage;
 
@@ -17,6 +18,7 @@ pub use body::log_length;
 pub use head::head_sector;
 pub use laws::{batch_laws, body_laws, head_laws, home_laws, image_laws, run_laws};
 pub use log::Log;
+pub use read::{Descriptor, Ends, read_descriptor, read_head};
 
 #[cfg(test)]
 mod tests;
