@@ -26,3 +26,4 @@ pub mod Histories
 pub mod LinkNumbers
 pub mod Walking
 pub mod Loops
+pub mod SameReading
