@@ -16,4 +16,5 @@ pub record TapeLaws : Type 0 where
   -- a barrier adds nothing, and leaves one value
   pub barrier_adds : (t : Tape) (s : ℕ) (x : List ℕ) → MayHold (did Barrier t) s x → MayHold t s x
   pub barrier_leaves_one : (t : Tape) (s : ℕ) (x : List ℕ) → MayHold (did Barrier t) s x → x ≡ now (did Barrier t) s
+  pub barrier_keeps : (t : Tape) (s : ℕ) → now (did Barrier t) s ≡ now t s
   pub now_may : (t : Tape) (s : ℕ) → MayHold t s (now t s)

@@ -15,3 +15,4 @@ pub mod StageRuns
 pub mod CommitRuns
 pub mod RecordForms
 pub mod ReadSectors
+pub mod Elsewhere

@@ -1,10 +1,11 @@
 -- What a head sector and a descriptor say when they are read.
-use Rattle.std.specs.Prelude.{◌≡◌, ℕ, zero, suc, ◌+◌, ◌-◌, ◌<◌, ◌≤◌, ◌^◌, Bool, ◌&&◌, nat_le, List, [], ◌∷◌, length}
+use Rattle.std.specs.Prelude.{◌≡◌, ℕ, zero, suc, ◌+◌, ◌-◌, ◌<◌, ◌≤◌, ◌^◌, Bool, false, ◌&&◌, nat_le, None, List, [], ◌∷◌, length}
 use Rattle.std.specs.Int.{w32, w64}
 use Rattle.std.specs.List.{AllByRecursion}
 use Rattle.std.specs.List.Sorted.{IsStrictlyIncreasing}
 use Rattle.vx_layout.specs.Fields.{number_at}
 use Rattle.vx_layout.specs.LogForms.{IsNameable, head_sector}
+use Rattle.vx_log.specs.Logs.{LogView}
 use Rattle.vx_log.specs.declared.read.Ends.{Ends}
 
 -- the ends of a log of n sectors
@@ -17,6 +18,10 @@ pub record IsEnds (n : ℕ) (e : Ends) : Type 0 where
 -- the head sector that says them
 abbrev pub ends_bytes : Ends → List ℕ
 ends_bytes e = head_sector e.serial e.tail e.head
+
+-- a log that stands so on an image, with batches that begin at these positions
+abbrev pub standing_log : ℕ → Ends → List ℕ → LogView
+standing_log n e starts = record { sectors = n; serial = e.serial; tail = e.tail; head = e.head; starts = starts; closing = None; spare = false }
 
 -- the fields at their places
 abbrev pub ends_at : List ℕ → Ends

@@ -6,11 +6,13 @@ ghost use Rattle.vx_dev.specs.declared.device.Operation.TheVariants.{Put};
 ghost use Rattle.vx_layout.specs.LogForms as forms;
 ghost use Rattle.vx_layout.specs.LogForms.{IsHomeSector};
 ghost use Rattle.vx_log.specs.Runs.{Ran, BrokeOff, puts};
-ghost use Rattle.vx_log.specs.Logs.{LogView, IsLog, IsBoundary, next_serial, fresh_log, closed, closing_length, stage_writes, after_stage, is_body_out, opened, advanced, has_spare};
+ghost use Rattle.vx_log.specs.Ends.{IsEnds, standing_log};
+ghost use Rattle.vx_log.specs.Logs.{LogView, IsLog, AreStarts, IsBoundary, next_serial, fresh_log, closed, closing_length, stage_writes, after_stage, is_body_out, opened, advanced, has_spare};
 
 use crate::batch::Batch;
 use crate::body::log_length;
 use crate::head::head_sector;
+use crate::read::Ends;
 use crate::stage::put_body;
 use std::alloc::{AllocError, Global};
 use std::marker::Model;
@@ -71,6 +73,26 @@ impl Log {
             closing: None,
             spare: None,
         })
+    }
+
+    /// The log whose head sector says this, with batches that begin at these positions. `starts` is all the memory that it ever needs.
+    pub fn standing(log_blocks: u32, ends: Ends, starts: Vec<u64>) -> Log
+        requires low { 256 ≤ log_blocks }
+        requires high { log_blocks ≤ 2048 }
+        requires ends { IsEnds (2 * log_blocks) ends }
+        requires starts { AreStarts ends.tail starts.items ends.head }
+        requires room { log_blocks ≤ vec_capacity starts }
+        ensures { result ≡ standing_log (2 * log_blocks) ends starts.items }
+    {
+        Log {
+            sectors: 2 * log_blocks,
+            serial: ends.serial,
+            tail: ends.tail,
+            head: ends.head,
+            starts,
+            closing: None,
+            spare: None,
+        }
     }
 
     /// The position at which the live part of the log begins.

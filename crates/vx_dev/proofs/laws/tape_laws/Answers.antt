@@ -13,5 +13,6 @@ returns c = record {
   failed_writes = tried_writes;
   barrier_adds = may_less;
   barrier_leaves_one = λ t s x may. may_barrier t s x may ∙ sym (now-barrier t s);
+  barrier_keeps = now-barrier;
   now_may = may_now;
 }

@@ -1,10 +1,11 @@
-use Rattle.std.proofs.Common.{ℕ, List, subst}
+use Rattle.std.proofs.Common.{ℕ, List, subst, Contains}
 use Rattle.vx_dev.specs.declared.device.Operation.TheVariants.{Put}
 use Rattle.vx_dev.specs.Tape.{Did, Failed}
 use Rattle.vx_layout.specs.LogForms.{head_of}
 use Rattle.vx_log.specs.Crashes.{emptied}
 use Rattle.vx_log.specs.Stages.{AreHomesPut}
 use Rattle.vx_log.proofs.CommitRuns.{tail_is, homes_settled, ready_passed, ready_failed, gate_done, gate_passed, gate_failed, turned_to, turned_passed, turned_failed, ReadsOne, on_ok, on_either}
+use Rattle.vx_log.proofs.Elsewhere as other
 use Rattle.vx_log.proofs.Passing.{passed_join}
 use Rattle.vx_log.proofs.log.Log.empty.Goals as goal
 
@@ -48,3 +49,28 @@ returns-clause-passed g c = λ r reading told.
     (gate_passed n r (emptied r) d1 d2 put ready) in
     passed_join (ReadsOne n r (emptied r)) d0 d2 d3 first
     (on_either c.barrier-2.result c.barrier-2.ensures.passed c.barrier-2.ensures.nothing (λ passed. turned_passed n r (emptied r) d2 d3 passed turns) (λ nothing. turned_failed n r (emptied r) d2 d3 nothing turns))
+
+pub returns-in_err-barrier-clause-elsewhere : goal.returns-in_err-barrier-clause-elsewhere
+returns-in_err-barrier-clause-elsewhere g c = λ s values apart told.
+    other.still s (Contains values) apart (g.D.BlockDev.state c.args.dev.now) (g.D.BlockDev.state c.barrier.new.self) c.in_err-barrier.ensures.nothing told
+
+pub returns-in_err-advance_tail-clause-elsewhere : goal.returns-in_err-advance_tail-clause-elsewhere
+returns-in_err-advance_tail-clause-elsewhere g c = λ s values apart told.
+    let d0 = g.D.BlockDev.state c.args.dev.now in
+    let d1 = g.D.BlockDev.state c.barrier.new.self in
+    let d2 = g.D.BlockDev.state c.advance_tail.new.dev in
+    passed_join (λ image. Contains values (image s)) d0 d1 d2 (other.barrier_step s (Contains values) apart d0 d1 c.in_ok-barrier.ensures.passed told)
+    (other.head_failed s (Contains values) apart _ d1 d2 c.in_err-advance_tail.ensures.failed (other.after_barrier s (Contains values) apart d0 d1 c.in_ok-barrier.ensures.passed told))
+
+pub returns-clause-elsewhere : goal.returns-clause-elsewhere
+returns-clause-elsewhere g c = λ s values apart told.
+    let d0 = g.D.BlockDev.state c.args.dev.now in
+    let d1 = g.D.BlockDev.state c.barrier.new.self in
+    let d2 = g.D.BlockDev.state c.advance_tail.new.dev in
+    let d3 = g.D.BlockDev.state c.barrier-2.new.self in
+    let first = other.after_barrier s (Contains values) apart d0 d1 c.in_ok-barrier.ensures.passed told in
+    let second = other.after_head s (Contains values) apart _ d1 d2 c.in_ok-advance_tail.ensures.put first in
+    let front = passed_join (λ image. Contains values (image s)) d0 d1 d2 (other.barrier_step s (Contains values) apart d0 d1 c.in_ok-barrier.ensures.passed told)
+    (other.head_step s (Contains values) apart _ d1 d2 c.in_ok-advance_tail.ensures.put first) in
+    passed_join (λ image. Contains values (image s)) d0 d2 d3 front
+    (on_either c.barrier-2.result c.barrier-2.ensures.passed c.barrier-2.ensures.nothing (λ passed. other.barrier_step s (Contains values) apart d2 d3 passed second) (λ nothing. other.still s (Contains values) apart d2 d3 nothing second))
