@@ -2,3 +2,4 @@ mod Places
 mod NoteOrder
 mod HomeRuns
 pub mod Notes
+pub mod Getting

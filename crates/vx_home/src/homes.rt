@@ -1,9 +1,9 @@
 //! Committed sectors that are not home yet.
-ghost use Rattle.std.specs.Prelude.{◌≡◌, ◌⊎◌, ◌<◌, ◌≤◌, ◌+◌, [], IfOk, IfErr, OnOk, OnErr, length, All};
+ghost use Rattle.std.specs.Prelude.{◌≡◌, ◌⊎◌, ◌<◌, ◌≤◌, ◌+◌, [], IfOk, IfErr, OnOk, OnErr, length, All, option_copied};
 ghost use Rattle.vx_base.specs.Faults.{HasCause};
 ghost use Rattle.vx_log.specs.Batches.{batch_set, IsPlaceOf, StandsAt, LacksAt};
 ghost use Rattle.vx_log.specs.Runs.{Ran, BrokeOff, puts};
-ghost use Rattle.vx_home.specs.Homes.{IsHomes, HasPlace, with_notes};
+ghost use Rattle.vx_home.specs.Homes.{IsHomes, HasPlace, noted_at, with_notes};
 ghost use Rattle.vx_home.specs.Indexes.{ArePlaces, named, bare};
 
 use std::alloc::{AllocError, Global};
@@ -53,6 +53,16 @@ impl Homes {
         ensures homes { IsHomes self.now }
     {
         self.index.len() as u32
+    }
+
+    /// What is noted of a sector.
+    pub fn get(&self, s: SectorNo) -> Option<&[u8; 512]>
+        ensures { option_copied result ≡ noted_at self.now s }
+    {
+        match find(self.index.as_slice(), s) {
+            Ok(at) => Some(&self.images[self.index[at].1]),
+            Err(_) => None,
+        }
     }
 
     /// Notes what a sector is to hold, in place of what was noted of it.
