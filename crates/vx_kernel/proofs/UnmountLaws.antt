@@ -16,10 +16,10 @@ use Rattle.vx_model.specs.Contents.{parsed_of}
 use Rattle.vx_model.specs.Images as images
 use Rattle.vx_model.specs.Images.{Says}
 use Rattle.vx_model.specs.Reads.{ImageReadsAs}
-use Rattle.vx_model.specs.Replays.{ReplaysAs}
+use Rattle.vx_model.specs.Replays.{IsLeft, ReplaysAs}
 use Rattle.vx_model.specs.State.{State}
 use Rattle.vx_kernel.specs.Devices.{IsInside}
-use Rattle.vx_kernel.specs.Journals.{IsMounted, superblock_of, IsKept, IsLeft}
+use Rattle.vx_kernel.specs.Journals.{IsMounted, superblock_of, IsKept}
 use Rattle.vx_kernel.specs.JournalLaws.{unit_volume, JournalLaws}
 use Rattle.vx_kernel.proofs.ReplayLaws.{and_false, and_left, and_both, level_records, mounted_volume, says_of, super_unnamed, replays}
 

@@ -1,7 +1,7 @@
 -- A journal between two transactions, and what it knows of its device.
 use Rattle.std.specs.List.{AllByRecursion}
 use Rattle.std.specs.Prelude.{◌^◌, ◌≡◌, ◌+◌, ◌<◌, ◌≤◌, ℕ, Bool, true, false, IsTrue, List, [], length, All, Option, Some, None}
-use Rattle.vx_dev.specs.Tape.{Tape, MayHold, now}
+use Rattle.vx_dev.specs.Tape.{Tape}
 use Rattle.vx_layout.specs.LogForms.{AfterImage, IsRecord, LogState, overlay_all}
 use Rattle.vx_layout.specs.Places.{block_sector}
 use Rattle.vx_layout.specs.Supers.{super_bytes}
@@ -13,9 +13,7 @@ use Rattle.vx_model.specs.Contents.{parsed_of}
 use Rattle.vx_model.specs.Images.{IsBatch, Says}
 use Rattle.vx_model.specs.Layout.{volume, is_free}
 use Rattle.vx_model.specs.LaidOut.{IsLaidOut}
-use Rattle.vx_model.specs.Replays.{IsClean}
 use Rattle.vx_model.specs.State.{State}
-use Rattle.vx_model.specs.Tree.{Tree}
 use Rattle.vx_kernel.specs.Devices.{IsInside}
 use Rattle.vx_kernel.specs.declared.journal.Journal.{Journal}
 
@@ -84,8 +82,3 @@ pub record IsKept (log : LogView) (homes : List AfterImage) (s : State) (t : Tap
   pub stands : Stands 1024 reading t
   pub noted : (q : ℕ) → IsNoted reading q (noted_at homes q)
   pub apart : (b i : ℕ) → is_free s.layout b ≡ true → i < 2 → IsUnnamed reading.records (block_sector 2 b + i)
-
--- a crash leaves one image, which is clean and reads as the tree
-pub record IsLeft (tree : Tree) (t : Tape) : Type 0 where
-  pub one : (s : ℕ) (x : List ℕ) → MayHold t s x → x ≡ now t s
-  pub clean : IsClean (now t) tree

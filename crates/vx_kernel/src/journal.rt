@@ -27,7 +27,8 @@ pub struct Journal {
 }
 
 impl Journal {
-    ghost use Rattle.vx_kernel.specs.Journals.{IsAtRest, IsIdle, IsMounted, IsChange, IsKept, IsLeft};
+    ghost use Rattle.vx_kernel.specs.Journals.{IsAtRest, IsIdle, IsMounted, IsChange, IsKept};
+    ghost use Rattle.vx_model.specs.Replays.{IsLeft};
 
     /// The journal of a new file system. It takes all the memory that it ever needs.
     pub fn new(alloc: Global) -> Result<Self, AllocError>

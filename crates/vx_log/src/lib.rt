@@ -13,7 +13,7 @@ mod read;
 mod sheet;
 mod stage;
 
-pub use batch::Batch;
+pub use batch::{AfterImage, Batch};
 pub use body::log_length;
 pub use head::head_sector;
 pub use laws::{batch_laws, body_laws, head_laws, home_laws, image_laws, run_laws};

@@ -17,7 +17,7 @@ use Rattle.vx_run.specs.Words.{are_words}
 use Rattle.vx_log.specs.Moments.{Told, Always}
 use Rattle.vx_model.specs.Allowed.{IsAllowed}
 use Rattle.vx_model.specs.Legal.{after_all}
-use Rattle.vx_kernel.specs.Journals.{IsLeft}
+use Rattle.vx_model.specs.Replays.{IsLeft}
 use Rattle.vx_run.specs.Faults.{EndInOrder}
 use Rattle.vx_run.specs.Cores.{beginning, IsEnded, is_unmounted, IsOfLines}
 

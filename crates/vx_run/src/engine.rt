@@ -50,7 +50,8 @@ impl Core {
     ghost use Rattle.vx_model.specs.LaidOut.{IsLaidOut};
     ghost use Rattle.vx_model.specs.Touching.{IsTouched};
     ghost use Rattle.vx_model.specs.Waiting.{Waits};
-    ghost use Rattle.vx_kernel.specs.Journals.{new_log_blocks, IsAtRest, IsMounted, IsKept, IsLeft};
+    ghost use Rattle.vx_kernel.specs.Journals.{new_log_blocks, IsAtRest, IsMounted, IsKept};
+    ghost use Rattle.vx_model.specs.Replays.{IsLeft};
     ghost use Rattle.vx_run.specs.Cores.{beginning, IsCore, IsUntouched, IsCarried, IsCommitted, IsAnswered, IsRun, IsEnded, is_unmounted, IsOfLines, TellsFaults};
 
     /// A mount of a new file system. It takes all memory for the history of so many lines.

@@ -12,7 +12,8 @@ use Rattle.vx_model.specs.Legal.{after_all}
 use Rattle.vx_model.specs.State.{fresh}
 use Rattle.vx_run.specs.Cores.{beginning, IsEnded, is_unmounted, TellsFaults}
 use Rattle.vx_run.specs.Ends.{Setting}
-use Rattle.vx_kernel.specs.Journals.{new_log_blocks, IsKept, IsLeft}
+use Rattle.vx_kernel.specs.Journals.{new_log_blocks, IsKept}
+use Rattle.vx_model.specs.Replays.{IsLeft}
 use Rattle.vx_run.proofs.Ending.{none_of, some_of, none_or_some, enabled_tells}
 use Rattle.vx_run.proofs.Scripts.{ended_unasked, all_built, all_modes}
 use Rattle.vx_run.proofs.Crashing.{live_formatted}

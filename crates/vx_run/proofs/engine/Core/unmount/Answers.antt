@@ -8,7 +8,7 @@ use Rattle.vx_model.specs.Legal.{after_all}
 use Rattle.vx_model.specs.Replays.{ReplaysAs}
 use Rattle.vx_model.specs.State.{State}
 use Rattle.vx_run.specs.Cores.{beginning}
-use Rattle.vx_kernel.specs.Journals.{IsLeft}
+use Rattle.vx_model.specs.Replays.{IsLeft}
 use Rattle.vx_run.proofs.Crashing.{told_stopped, told_failed, told_unmounted, state_unmounted, kept_live}
 use Rattle.vx_run.proofs.Ending.{none_of, some_of}
 use Rattle.vx_run.proofs.FaultOrder.{end_here, end_unmounted, end_unmounting}

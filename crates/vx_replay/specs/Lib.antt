@@ -1,0 +1,2 @@
+pub mod LogReads
+pub mod Refusals
