@@ -24,14 +24,14 @@ use Rattle.vx_log.proofs.StageRuns.{Putting, WritingHome, body_stage, body_broke
 use Rattle.vx_log.proofs.Times.{past_start}
 
 -- what is told afterwards, where it follows from what was told
-told_by : (ops : List Operation) (old new : State) (P : Tape → Type 0) → new.told ≡ option_map (did_all ops) old.told → ((t : Tape) → old.told ≡ Some t → Told new P) → Told new P
+pub told_by : (ops : List Operation) (old new : State) (P : Tape → Type 0) → new.told ≡ option_map (did_all ops) old.told → ((t : Tape) → old.told ≡ Some t → Told new P) → Told new P
 told_by ops old new P is h = by_cases old.told refl
   where
     by_cases : (o : Option Tape) → old.told ≡ o → Told new P
     by_cases None e = subst (λ (m : Option Tape). IfSome m P) (sym is) (subst (λ (m : Option Tape). IfSome (option_map (did_all ops) m) P) (sym e) tt)
     by_cases (Some t) e = h t e
 
-at_tape : (d : State) (P : Tape → Type 0) (t : Tape) → Told d P → d.told ≡ Some t → P t
+pub at_tape : (d : State) (P : Tape → Type 0) (t : Tape) → Told d P → d.told ≡ Some t → P t
 at_tape d P t h e = subst (λ (o : Option Tape). IfSome o P) e h
 
 module _ (n : ℕ) (r : LogState) where

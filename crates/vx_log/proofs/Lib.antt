@@ -16,3 +16,4 @@ pub mod CommitRuns
 pub mod RecordForms
 pub mod ReadSectors
 pub mod Elsewhere
+pub mod Values

@@ -1,13 +1,12 @@
 //! Whole commits, and the emptying of the log.
 ghost use Rattle.std.specs.Prelude.{◌≡◌, ◌≢◌, ◌⊎◌, ◌+◌, ◌<◌, ◌≤◌, ◌^◌, ℕ, Bool, Some, IsTrue, IsSome, IsNone, OnOk, OnErr, List, length, All, Contains, option_map};
 ghost use Rattle.vx_base.specs.Faults.{HasCause};
-ghost use Rattle.vx_dev.specs.Tape.{MayHold};
 ghost use Rattle.vx_layout.specs.LogForms.{AfterImage, IsHomeSector, LogState, ReadsAs, log_length, records_of, body_of};
 ghost use Rattle.vx_log.specs.Crashes.{Stands, grown, emptied};
 ghost use Rattle.vx_log.specs.Logs.{closed, opened, advanced, is_body_out};
 ghost use Rattle.vx_log.specs.Moments.{Told, Passed};
 ghost use Rattle.vx_log.specs.Readings.{IsReading, Commits};
-ghost use Rattle.vx_log.specs.Stages.{IsBodyPut, IsToPut, AreHomesPut};
+ghost use Rattle.vx_log.specs.Stages.{IsBodyPut, IsToPut, AreHomesPut, HoldsOneOf};
 
 use crate::batch::Batch;
 use crate::log::Log;
@@ -55,7 +54,7 @@ impl Log {
         ensures passed { (r : LogState) → IsReading self.old r → Told (D.state dev.old) (AreHomesPut self.old.sectors r)
             → Passed (λ image. ReadsAs self.old.sectors r image ⊎ ReadsAs self.old.sectors (emptied r) image) (D.state dev.old) (D.state dev.new) }
         // What a crash may leave in any other sector stays.
-        ensures elsewhere { (s : ℕ) (values : List (List ℕ)) → s ≢ 2 → Told (D.state dev.old) (λ t. (x : List ℕ) → MayHold t s x → Contains values x)
+        ensures elsewhere { (s : ℕ) (values : List (List ℕ)) → s ≢ 2 → Told (D.state dev.old) (HoldsOneOf s values)
             → Passed (λ image. Contains values (image s)) (D.state dev.old) (D.state dev.new) }
         ensures size { (D.state dev.new).size ≡ (D.state dev.old).size }
         ensures later { (D.state dev.old).count ≤ (D.state dev.new).count }

@@ -12,7 +12,7 @@ ghost use Rattle.vx_log.specs.Logs.{next_serial};
 ghost use Rattle.vx_log.specs.Moments.{Told, Passed};
 ghost use Rattle.vx_log.specs.RunLaws.{RunLaws};
 ghost use Rattle.vx_log.specs.Runs.{Ran, BrokeOff, puts, log_writes};
-ghost use Rattle.vx_log.specs.Stages.{IsBodyPut, IsFitting, AreHomes, AreWritten};
+ghost use Rattle.vx_log.specs.Stages.{IsBodyPut, IsFitting, AreHomes, AreWritten, HoldsOneOf, AreAmong};
 
 /// What the after-images of a batch make of a sector.
 pub fn batch_laws()
@@ -69,6 +69,14 @@ pub fn home_laws()
         → Told old (Stands n r) → Told new (AreWritten n r writes) × Passed (ReadsAs n r) old new }
     ensures broken { (n : ℕ) (r : LogState) (writes : List (ℕ × List ℕ)) (old new : State) → 0 < n → AreHomes r writes → BrokeOff writes old new
         → Told old (Stands n r) → Passed (ReadsAs n r) old new }
+{}
+
+/// Several sectors are written, and those of the writes that go to one sector leave one of these values there.
+pub fn value_laws()
+    ensures stage { (s : ℕ) (values : List (List ℕ)) (writes : List (ℕ × List ℕ)) (old new : State) → AreAmong s values writes → Ran (puts writes) old new
+        → Told old (HoldsOneOf s values) → Told new (HoldsOneOf s values) × Passed (λ image. Contains values (image s)) old new }
+    ensures broken { (s : ℕ) (values : List (List ℕ)) (writes : List (ℕ × List ℕ)) (old new : State) → AreAmong s values writes → BrokeOff writes old new
+        → Told old (HoldsOneOf s values) → Passed (λ image. Contains values (image s)) old new }
 {}
 
 /// How runs of operations grow, and how they break off.
