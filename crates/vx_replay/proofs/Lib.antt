@@ -1,1 +1,4 @@
 pub mod LogReading
+pub mod Reread
+pub mod Steps
+pub mod Marks

@@ -1,2 +1,4 @@
 pub mod LogReads
 pub mod Refusals
+pub mod Stopped
+pub mod ReplayLaws
