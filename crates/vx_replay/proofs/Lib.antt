@@ -2,3 +2,5 @@ pub mod LogReading
 pub mod Reread
 pub mod Steps
 pub mod Marks
+pub mod Loading
+pub mod BadReads

@@ -1,10 +1,10 @@
 -- What a crash leaves of a stopped image, whatever of its log is written home, replays as the same tree.
 use Rattle.std.proofs.Common.{◌≡◌, ◌≢◌, ◌⊎◌, ℕ, zero, suc, ◌+◌, ◌*◌, ◌<◌, ◌≤◌, ◌^◌, Bool, true, false, List, [], ◌∷◌, ◌++◌, length, get_or, Option, Some, None, refl, sym, ap, subst, ◌∙◌, arith, inl, inr, Contains}
-use Rattle.std.specs.Prelude.{◌||◌, ◌==◌, nat_le, IsTrue, IfSome, All}
+use Rattle.std.specs.Prelude.{◌||◌, ◌==◌, nat_le, IsTrue, IfSome, All, unwrap_or}
 use Rattle.std.specs.List.{AllByRecursion}
 use Rattle.std.specs.List.Sorted.{IsStrictlyIncreasing}
 use Rattle.std.proofs.lemmas.Bool.{cases_eq, eqb-true, le-leb, leb-true}
-use Rattle.std.proofs.lemmas.List.Elements.{All-nil, All-cons, All-get_or}
+use Rattle.std.proofs.lemmas.List.Elements.{All-nil, All-cons, All-get_or, All-from_get_or}
 use Rattle.vx_dev.specs.Tape.{Tape, MayHold}
 use Rattle.vx_layout.specs.declared.superblock.Super.{Super}
 use Rattle.vx_layout.specs.LogForms.{AfterImage, IsNameable, IsRecord, LogState, ReadsAs, homes_of, log_at, overlay, overlay_all}
@@ -232,3 +232,25 @@ module _ (laws : ReplayLaws) (size : ℕ) (image : ℕ → List ℕ) (tree : Tre
         let low : next_serial read.ends.serial < 2 ^ 64 = omega arith in
         good laws tree s.superblock read.first read.same_log is_super over reads (emptied r0) s.superblock.clean other low read.is_ends.limit tt (above_home n) (λ q. refl) rd
         last s.superblock is_super last read.same_log
+
+-- ---- on a device of so many sectors
+
+module _ (notes : NoteLaws) (n size : ℕ) where
+  inside_each : (r : List AfterImage) → AllByRecursion (IsNameable n size) (homes_of r) → All (λ e. (0 ≤ e.0) × (e.0 < size)) r
+  inside_each [] h = All-nil (λ (e : AfterImage). (0 ≤ e.0) × (e.0 < size))
+  inside_each (e ∷ r) h = All-cons (λ (e : AfterImage). (0 ≤ e.0) × (e.0 < size)) e r (omega arith, h.0.inside) (inside_each r h.1)
+
+  inside_notes : (homes : List AfterImage) (rs : List (List AfterImage)) → AllByRecursion (IsRecord n size) rs → All (λ e. (0 ≤ e.0) × (e.0 < size)) homes → All (λ e. (0 ≤ e.0) × (e.0 < size)) (noted_all homes rs)
+  inside_notes homes [] form h = h
+  inside_notes homes (r ∷ rs) form h = inside_notes (with_notes homes r) rs form.1 (notes.inside 0 size homes r h (inside_each r form.0.homes))
+
+  pub inside_all : (rs : List (List AfterImage)) → AllByRecursion (IsRecord n size) rs → All (λ e. e.0 < size) (noted_all [] rs)
+  inside_all rs form =
+      let none : AfterImage = (0, []) in
+      All-from_get_or (λ (e : AfterImage). e.0 < size) (noted_all [] rs) none
+      (λ i lt. (All-get_or (λ (e : AfterImage). (0 ≤ e.0) × (e.0 < size)) (noted_all [] rs) i none lt (inside_notes [] rs form (All-nil (λ (e : AfterImage). (0 ≤ e.0) × (e.0 < size))))).1)
+
+-- what is noted of a sector, or what it holds, is what the records make of it
+pub note_is : (rs : List (List AfterImage)) (q : ℕ) (o : Option (List ℕ)) (x : List ℕ) → IsNoteOf rs q o → unwrap_or o x ≡ overlay_all rs q x
+note_is rs q None x h = sym (h x)
+note_is rs q (Some image) x h = sym (h x)

@@ -2,3 +2,4 @@ pub mod LogReads
 pub mod Refusals
 pub mod Stopped
 pub mod ReplayLaws
+pub mod BadImages

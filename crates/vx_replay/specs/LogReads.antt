@@ -1,5 +1,5 @@
 -- What a log holds, as it is read from a device.
-use Rattle.std.specs.Prelude.{◌≡◌, ◌+◌, ◌<◌, ◌≤◌, ℕ, List, [], length, map, get_or, Some}
+use Rattle.std.specs.Prelude.{◌≡◌, ◌+◌, ◌<◌, ◌≤◌, ℕ, List, [], ◌∷◌, length, map, get_or, Some}
 use Rattle.std.specs.List.{AllByRecursion}
 use Rattle.vx_dev.specs.Tape.{State, Tape}
 use Rattle.vx_layout.specs.LogForms.{AfterImage, IsRecord, homes_of, log_at, log_sectors, descriptor}
@@ -45,3 +45,13 @@ pub record EndsBadly (n size : ℕ) (image : ℕ → List ℕ) (tail head sector
   pub before : position < head
   pub sector_is : sector ≡ log_at n position
   pub none : HasNoRecord n size image position head
+
+-- how many after-images these records have
+abbrev pub image_count : List (List AfterImage) → ℕ
+image_count [] = 0
+image_count (r ∷ rs) = length r + image_count rs
+
+-- the positions at which these records begin
+abbrev pub starts_at : ℕ → List (List AfterImage) → List ℕ
+starts_at tail [] = []
+starts_at tail (r ∷ rs) = tail ∷ starts_at (tail + (1 + length r)) rs

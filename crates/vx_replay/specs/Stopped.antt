@@ -1,5 +1,5 @@
 -- A stopped image as it is read, and the tree that it replays as.
-use Rattle.std.specs.Prelude.{◌≡◌, ◌+◌, ◌*◌, ◌<◌, ◌≤◌, ◌^◌, ℕ, false, IsTrue, List, [], ◌∷◌, None, All}
+use Rattle.std.specs.Prelude.{◌≡◌, ◌+◌, ◌*◌, ◌<◌, ◌≤◌, ◌^◌, ℕ, false, IsTrue, List, [], ◌∷◌, length, None, All}
 use Rattle.vx_dev.specs.Tape.{State, Tape, MayHold, now}
 use Rattle.vx_layout.specs.declared.superblock.Super.{Super}
 use Rattle.vx_layout.specs.Places.{sectors_of}
@@ -12,7 +12,7 @@ use Rattle.vx_log.specs.Crashes.{Stands}
 use Rattle.vx_model.specs.Reads.{ImageReadsAs}
 use Rattle.vx_model.specs.Replays.{ReplaysAs}
 use Rattle.vx_model.specs.Tree.{Tree}
-use Rattle.vx_replay.specs.LogReads.{Shows, StandThere, AreRecords}
+use Rattle.vx_replay.specs.LogReads.{Shows, StandThere, AreRecords, image_count}
 use Rattle.vx_replay.specs.declared.load.Stopped.{Stopped}
 
 -- what is noted once the records are, the oldest first
@@ -46,6 +46,8 @@ pub record IsReadFrom (size : ℕ) (image : ℕ → List ℕ) (s : Stopped) : Ty
   pub tail : s.log.tail ≡ ends.tail
   pub head : s.log.head ≡ ends.head
   pub homes : s.homes ≡ noted_all [] records
+  pub descriptors : s.descriptors ≡ length records
+  pub images : s.images ≡ image_count records
 
 -- the device shows an image that replays as the tree, and this was read of it
 pub record IsReplayOf (d : State) (t : Tape) (tree : Tree) (s : Stopped) : Type 0 where

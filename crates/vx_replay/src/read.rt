@@ -6,7 +6,7 @@ ghost use Rattle.vx_layout.specs.LogForms as forms;
 ghost use Rattle.vx_layout.specs.LogForms.{AfterImage as Image, IsRecord, homes_of, log_at, log_sectors, record_sectors};
 ghost use Rattle.vx_log.specs.Ends.{IsEnds};
 ghost use Rattle.vx_replay.specs.LogReads.{Shows, IsRead, images_of, StandThere, AreRecords, HasNoRecord, EndsBadly};
-ghost use Rattle.vx_replay.specs.Refusals.{IsReadRefusal};
+ghost use Rattle.vx_replay.specs.Refusals.{IsLogRefusal};
 
 use crate::refusal::ReplayRefusal;
 use std::alloc::{AllocError, Global};
@@ -96,7 +96,7 @@ fn read_images<D: BlockDev>(
     ensures homes { IfOk result (λ r. homes_of r ≡ homes.now) }
     ensures images { (t : Tape) → Shows (D.state dev.old) t → IfOk result (λ r. StandThere sectors (now t) position (images_of r)) }
     ensures read { IsRead (D.state dev.old) (D.state dev.new) }
-    ensures cause { IsReadRefusal (D.state dev.old) (D.state dev.new) result }
+    ensures cause { IsLogRefusal (D.state dev.old) (D.state dev.new) result }
     ensures never { (s : ℕ) → result ≡ Err (ReplayRefusal.BadLog s) → ⊥ }
 {
     let mut record = Record::new(alloc);
@@ -129,7 +129,7 @@ fn read_record<D: BlockDev>(
     ensures stand { (t : Tape) → Shows (D.state dev.old) t → IfOk result (λ r. StandThere sectors (now t) position (record_sectors position r)) }
     ensures bad { (t : Tape) (s : ℕ) → Shows (D.state dev.old) t → result ≡ Err (ReplayRefusal.BadLog s) → (s ≡ log_at sectors position) × HasNoRecord sectors (D.state dev.old).size (now t) position head }
     ensures read { IsRead (D.state dev.old) (D.state dev.new) }
-    ensures cause { IsReadRefusal (D.state dev.old) (D.state dev.new) result }
+    ensures cause { IsLogRefusal (D.state dev.old) (D.state dev.new) result }
 {
     let place = place_of(sectors, position);
     let size = dev.sectors();
@@ -162,7 +162,7 @@ pub fn read_records<D: BlockDev>(
     ensures stand { (t : Tape) → Shows (D.state dev.old) t → IfOk result (λ v. StandThere sectors (now t) ends.tail (log_sectors ends.tail v.items)) }
     ensures bad { (t : Tape) (s : ℕ) → Shows (D.state dev.old) t → result ≡ Err (ReplayRefusal.BadLog s) → EndsBadly sectors (D.state dev.old).size (now t) ends.tail ends.head s }
     ensures read { IsRead (D.state dev.old) (D.state dev.new) }
-    ensures cause { IsReadRefusal (D.state dev.old) (D.state dev.new) result }
+    ensures cause { IsLogRefusal (D.state dev.old) (D.state dev.new) result }
 {
     let mut records = Vec::new(alloc);
     let mut position = ends.tail;
