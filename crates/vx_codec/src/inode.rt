@@ -1,12 +1,13 @@
 //! Inodes.
-ghost use Rattle.std.specs.Prelude.{◌≡◌, ℕ, ◌+◌, ◌≤◌, ◌<◌, ◌++◌, ◌&&◌, length, option_copied, unwrap_or, Option, Ok, IfOk};
+ghost use Rattle.std.specs.Prelude.{◌≡◌, ℕ, ◌+◌, ◌≤◌, ◌<◌, ◌++◌, ◌&&◌, length, option_copied, Option, Ok, IfOk};
 ghost use Rattle.std.specs.Str.{bytes_eq};
 ghost use Rattle.std.specs.List.{flat_map};
-ghost use Rattle.vx_layout.specs.Inodes.{kind_number, file_kind_number, extent_bytes, place_bytes, inode_head, inode_bytes, slot_bytes, half_of, layout1, IsSlot, IsInode, inode_fits, attrs_fit, kind_from, file_kind_from, extent_at, place_at, places_at, attrs_at, fields_at, map_at, inode_at, slot_at};
+ghost use Rattle.vx_layout.specs.Inodes.{file_kind_number, place_bytes, inode_head, inode_bytes, slot_bytes, half_of, layout1, IsSlot, IsInode, inode_fits, attrs_fit, file_kind_from, place_at, places_at, attrs_at, fields_at, map_at, inode_at, slot_at};
 ghost use Rattle.vx_base.specs.declared.inode.InodeValue.{InodeValue};
 ghost use Rattle.vx_base.specs.declared.geom.Geom.{Geom};
 
-use vx_base::{Block, ExtAttrs, Extent, FileKind, Inode, InodeValue, Kind, Page};
+use crate::extent::{extent_of, extent_text, number_of_block};
+use vx_base::{Block, ExtAttrs, Extent, FileKind, Inode, InodeValue};
 use vx_layout::Sheet;
 use vx_layout::fields::{is_zero_from, u16_at, u32_at, u64_at};
 
@@ -176,18 +177,6 @@ fn place_of(bytes: &[u8], at: usize, index: u32, extents: u32) -> Option<Extent>
     }
 }
 
-fn extent_of(bytes: &[u8], at: usize) -> Extent
-    requires { at + 16 ≤ length bytes.now }
-    ensures { result ≡ extent_at at bytes.now }
-{
-    Extent {
-        page: Page::new(u32_at(bytes, at)),
-        start: Block::new(u32_at(bytes, at + 4)),
-        len: u32_at(bytes, at + 8),
-        kind: kind_of(u32_at(bytes, at + 12)),
-    }
-}
-
 fn map_of(bytes: &[u8], maps: u16) -> Option<Block>
     requires { 256 ≤ length bytes.now }
     ensures { result ≡ map_at maps bytes.now }
@@ -196,16 +185,6 @@ fn map_of(bytes: &[u8], maps: u16) -> Option<Block>
         Some(Block::new(u32_at(bytes, 128)))
     } else {
         None
-    }
-}
-
-fn kind_of(number: u32) -> Kind
-    ensures { result ≡ kind_from number }
-{
-    if number == 0 {
-        Kind::Data
-    } else {
-        Kind::Reserved
     }
 }
 
@@ -266,36 +245,6 @@ fn place_text(place: Option<Extent>) -> [u8; 16]
     }
 }
 
-#[tactic(auto, unfolding(vx_layout::specs::Inodes::extent_bytes))]
-fn extent_text(extent: Extent) -> [u8; 16]
-    ensures { result ≡ extent_bytes extent }
-{
-    let mut sheet = Sheet::<16>::new();
-    sheet.put_u32(extent.page.get());
-    sheet.put_u32(extent.start.get());
-    sheet.put_u32(extent.len);
-    sheet.put_u32(number_of_kind(extent.kind));
-    sheet.finish()
-}
-
-fn number_of_block(block: Option<Block>) -> u32
-    ensures { result ≡ unwrap_or block 0 }
-{
-    match block {
-        Some(block) => block.get(),
-        None => 0,
-    }
-}
-
-fn number_of_kind(kind: Kind) -> u32
-    ensures { result ≡ kind_number kind }
-{
-    match kind {
-        Kind::Data => 0,
-        Kind::Reserved => 1,
-    }
-}
-
 fn number_of_file_kind(kind: FileKind) -> u8
     ensures { result ≡ file_kind_number kind }
 {
@@ -308,6 +257,7 @@ fn number_of_file_kind(kind: FileKind) -> u8
 #[cfg(test)]
 mod tests {
     use super::*;
+    use vx_base::{Kind, Page};
 
     fn value(kind: FileKind, mode: u16, size: u64, block: Option<Extent>) -> InodeValue {
         let attrs = ExtAttrs {
