@@ -362,7 +362,7 @@ mod tests {
         let sector = inode_sector(Some(&file), None);
         assert!(rt; read_inode(&sector, 0).is_err());
         assert!(rt; read_inode_with(&sector, 0, &geom).is_ok());
-        file.inode.size += 1;
+        file.inode.size = (1 << 40) + 1;
         let sector = inode_sector(Some(&file), None);
         assert!(rt; read_inode_with(&sector, 0, &geom).is_err());
     }
