@@ -1,4 +1,4 @@
-use Rattle.std.proofs.Common.{◌≡◌, ◌+◌, ◌-◌, ◌≤◌, take, drop, get_or, ap, ◌∙◌, length, arith}
+use Rattle.std.proofs.Common.{◌≡◌, ◌+◌, ◌-◌, take, drop, get_or, ap, ◌∙◌, arith}
 use Rattle.vx_codec.proofs.DirLaws.{short_entry, cut_entry, whole_entry}
 use Rattle.vx_codec.proofs.directory.entry_of.Goals as goal
 

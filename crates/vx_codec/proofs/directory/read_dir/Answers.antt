@@ -1,4 +1,4 @@
-use Rattle.std.proofs.Common.{◌≡◌, ◌∙◌, ap, inl, true, false, Err}
+use Rattle.std.proofs.Common.{◌≡◌, ◌∙◌, ap, inl, false, Err}
 use Rattle.std.specs.Str.{bytes_eq}
 use Rattle.vx_layout.specs.Dirs.{dir_bytes}
 use Rattle.vx_codec.proofs.DirLaws.{read_is, dir_spelled_so, only_memory, not_bad}
