@@ -1,5 +1,5 @@
 -- What is spelled as a directory block is read again.
-use Rattle.std.proofs.Common.{◌≡◌, ◌≢◌, ◌⊎◌, inr, Result, Ok, Err, ℕ, suc, ◌+◌, ◌-◌, ◌<◌, ◌≤◌, true, false, List, [], ◌∷◌, ◌++◌, length, replicate, take, drop, get_or, Option, Some, None, refl, sym, ap, ◌∙◌, arith, append_assoc, length-append, length-drop, length-take}
+use Rattle.std.proofs.Common.{◌≡◌, ◌≢◌, ◌⊎◌, inr, Result, Ok, Err, ℕ, suc, ◌+◌, ◌-◌, ◌<◌, ◌≤◌, true, false, List, [], ◌∷◌, ◌++◌, length, replicate, take, drop, get_or, Option, Some, None, refl, sym, ap, subst, ◌∙◌, arith, append_assoc, length-append, length-drop, length-take}
 use Rattle.std.specs.Prelude.{nat_lt, All}
 use Rattle.std.specs.Int.{w16, w32}
 use Rattle.std.specs.Str.{bytes_eq}
@@ -154,6 +154,10 @@ pub to_the_end : (s : List ℕ) (at : ℕ) → take (length s - at) (drop at s) 
 to_the_end s at =
     let long : length s - at ≡ length (drop at s) = omega (arith, length-drop at s) in
     ap (λ n. take n (drop at s)) long ∙ take-length (drop at s)
+
+pub read_rest : (s : List ℕ) (at : ℕ) (e : DirEntry) → entry_at (take (length s - at) (drop at s)) ≡ Some (e, drop (5 + length e.name) (take (length s - at) (drop at s)))
+    → entry_at (drop at s) ≡ Some (e, drop (5 + length e.name) (drop at s))
+read_rest s at e read = subst (λ (x : List ℕ). entry_at x ≡ Some (e, drop (5 + length e.name) x)) (to_the_end s at) read
 
 pub not_bad : (size : ℕ) (v : List DirEntry) (s : List ℕ) → IsDir size v → s ≡ dir_bytes size v → dir_at s ≢ None
 not_bad size v s is spelled none =

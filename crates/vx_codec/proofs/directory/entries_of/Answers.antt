@@ -1,9 +1,9 @@
-use Rattle.std.proofs.Common.{◌≡◌, ℕ, suc, ◌+◌, ◌-◌, List, [], ◌∷◌, ◌++◌, length, drop, Some, Err, sym, subst, ap, ◌∙◌, arith, length-append, length-drop}
+use Rattle.std.proofs.Common.{◌≡◌, suc, ◌+◌, ◌-◌, List, [], ◌∷◌, ◌++◌, length, Err, sym, subst, ap, ◌∙◌, arith, length-append, length-drop}
 use Rattle.std.specs.List.{AllByRecursion}
 use Rattle.vx_base.specs.declared.inode.DirEntry.{DirEntry}
 use Rattle.vx_layout.specs.Dirs.{entries_bytes, entry_at, IsEntry}
 use Rattle.vx_codec.specs.declared.directory.DirReadRefusal.TheVariants.{Bad}
-use Rattle.vx_codec.proofs.DirLaws.{StandBehind, stand_more, stand_all, stand_none, bytes_more, each_more, same_refusal, to_the_end}
+use Rattle.vx_codec.proofs.DirLaws.{StandBehind, stand_more, stand_all, stand_none, bytes_more, each_more, same_refusal, to_the_end, read_rest}
 use Rattle.vx_codec.proofs.directory.entries_of.Goals as goal
 
 pub returns-in_err-entry-clause-bad : goal.returns-in_err-entry-clause-bad
@@ -29,8 +29,7 @@ loop-preserved c =
     let one_left : count - c.loop.counter ≡ suc (c.u16_at-count.result - (c.loop.counter + 1)) = omega (arith, c.loop-test.true) in
     let stand = subst (λ n. StandBehind count es n at s) one_left before.stand in
     let here = to_the_end s at in
-    let read = sym (ap entry_at here) ∙ c.in_ok-entry.ensures.read ∙ ap (λ (x : List ℕ). Some (e, drop (5 + length e.name) x)) here in
-    let more = stand_more count (c.u16_at-count.result - (c.loop.counter + 1)) es e at s stand read in
+    let more = stand_more count (c.u16_at-count.result - (c.loop.counter + 1)) es e at s stand (read_rest s at e c.in_ok-entry.ensures.read) in
     let there = subst (λ n. StandBehind count (es ++ e ∷ []) (c.u16_at-count.result - (c.loop.counter + 1)) (at + (5 + n)) s) (sym name) more in
     record {
       long = ap length pushed ∙ (let l : length (es ++ e ∷ []) ≡ c.loop.counter + 1 = omega (arith, length-append es (e ∷ []), before.long) in l);
