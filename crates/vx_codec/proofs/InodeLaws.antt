@@ -31,15 +31,15 @@ file_kind_again Directory = refl
 
 -- ---- places behind other bytes
 
-behind : (w : Width) (pre x : List ℕ) (at : ℕ) → length pre ≡ at → number_at w at (pre ++ x) ≡ number_at w 0 x
+pub behind : (w : Width) (pre x : List ℕ) (at : ℕ) → length pre ≡ at → number_at w at (pre ++ x) ≡ number_at w 0 x
 unfolding number_at
 behind w pre x at len = ap (from_le_bytes w) (drop_at pre x at len)
 
-further : (w : Width) (pre x : List ℕ) (at k : ℕ) → length pre ≡ at → number_at w (at + k) (pre ++ x) ≡ number_at w k x
+pub further : (w : Width) (pre x : List ℕ) (at k : ℕ) → length pre ≡ at → number_at w (at + k) (pre ++ x) ≡ number_at w k x
 unfolding number_at
 further w pre x at k len = ap (from_le_bytes w) (sym (drop-drop k at (pre ++ x)) ∙ ap (drop k) (drop_at pre x at len))
 
-extent_again : (e : Extent) (pre rest : List ℕ) (at : ℕ) → length pre ≡ at → IsExtent e → extent_at at (pre ++ (extent_bytes e ++ rest)) ≡ e
+pub extent_again : (e : Extent) (pre rest : List ℕ) (at : ℕ) → length pre ≡ at → IsExtent e → extent_at at (pre ++ (extent_bytes e ++ rest)) ≡ e
 unfolding extent_bytes number_at
 extent_again e pre rest at len fits =
     let x : List ℕ = extent_bytes e ++ rest in
@@ -84,7 +84,7 @@ map_again : (o : Option ℕ) (m : ℕ) → is_some o ≡ nat_lt 0 m → cond (na
 map_again None m h = rw (← h) refl
 map_again (Some b) m h = rw (← h) refl
 
-below : (o : Option ℕ) → IfSome o (λ b. b < 2 ^ 32) → unwrap_or o 0 < 2 ^ 32
+pub below : (o : Option ℕ) → IfSome o (λ b. b < 2 ^ 32) → unwrap_or o 0 < 2 ^ 32
 below None h = omega arith
 below (Some b) h = h
 
@@ -142,13 +142,13 @@ inode_unique g v w fv fw e = sym (inode_again g v fv) ∙ ap inode_at e ∙ inod
 
 -- ---- what is read
 
-below_16 : (at : ℕ) (s : List ℕ) → IsBytes s → number_at w16 at s < 2 ^ 16
+pub below_16 : (at : ℕ) (s : List ℕ) → IsBytes s → number_at w16 at s < 2 ^ 16
 unfolding number_at
 below_16 at s fits =
     let h = IsBytes-drop at s fits in
     omega (arith, h 0, h 1)
 
-below_32 : (at : ℕ) (s : List ℕ) → IsBytes s → number_at w32 at s < 2 ^ 32
+pub below_32 : (at : ℕ) (s : List ℕ) → IsBytes s → number_at w32 at s < 2 ^ 32
 unfolding number_at
 below_32 at s fits =
     let h = IsBytes-drop at s fits in
@@ -160,7 +160,7 @@ below_64 at s fits =
     let h = IsBytes-drop at s fits in
     omega (arith, h 0, h 1, h 2, h 3, h 4, h 5, h 6, h 7)
 
-is_extent : (at : ℕ) (s : List ℕ) → IsBytes s → IsExtent (extent_at at s)
+pub is_extent : (at : ℕ) (s : List ℕ) → IsBytes s → IsExtent (extent_at at s)
 is_extent at s fits = record { page = below_32 at s fits; start = below_32 (at + 4) s fits; len = below_32 (at + 8) s fits }
 
 chosen_place : (n i at : ℕ) (s : List ℕ) (b : Bool) → IsBytes s → nat_lt i n ≡ b → IsPlace n i (cond b (Some (extent_at at s)) None)

@@ -3,4 +3,5 @@ pub mod Entries
 pub mod Bitmaps
 pub mod DirLaws
 pub mod InodeLaws
+pub mod MapLaws
 pub mod BitLaws

@@ -1,12 +1,14 @@
 //! Inodes.
-ghost use Rattle.std.specs.Prelude.{◌≡◌, ℕ, ◌+◌, ◌≤◌, ◌<◌, ◌++◌, ◌&&◌, length, option_copied, unwrap_or, Option, Ok, IfOk};
+ghost use Rattle.std.specs.Prelude.{◌≡◌, ℕ, ◌+◌, ◌≤◌, ◌<◌, ◌++◌, ◌&&◌, length, option_copied, Option, Ok, IfOk};
 ghost use Rattle.std.specs.Str.{bytes_eq};
 ghost use Rattle.std.specs.List.{flat_map};
-ghost use Rattle.vx_layout.specs.Inodes.{kind_number, file_kind_number, extent_bytes, place_bytes, inode_head, inode_bytes, slot_bytes, half_of, layout1, IsSlot, IsInode, inode_fits, attrs_fit, kind_from, file_kind_from, extent_at, place_at, places_at, attrs_at, fields_at, map_at, inode_at, slot_at};
+ghost use Rattle.vx_layout.specs.Inodes.{file_kind_number, place_bytes, inode_head, inode_bytes, slot_bytes, half_of, layout1, IsSlot, IsInode, inode_fits, attrs_fit, extents_limit, file_kind_from, place_at, places_at, attrs_at, fields_at, map_at, inode_at, slot_at};
+ghost use Rattle.vx_layout.specs.Geoms.{IsGeom};
 ghost use Rattle.vx_base.specs.declared.inode.InodeValue.{InodeValue};
 ghost use Rattle.vx_base.specs.declared.geom.Geom.{Geom};
 
-use vx_base::{Block, ExtAttrs, Extent, FileKind, Inode, InodeValue, Kind, Page};
+use crate::extent::{extent_of, extent_text, number_of_block};
+use vx_base::{Block, ExtAttrs, Extent, FileKind, Geom, Inode, InodeValue};
 use vx_layout::Sheet;
 use vx_layout::fields::{is_zero_from, u16_at, u32_at, u64_at};
 
@@ -35,9 +37,7 @@ pub fn inode_sector(even: Option<&InodeValue>, odd: Option<&InodeValue>) -> [u8;
 #[derive(Clone, Copy, Debug)]
 pub struct Bad;
 
-/// The inode in one half of a sector of layout 1, None where it is free.
-///
-/// That its extents are in order and that its blocks are there is not looked at.
+/// The inode in one half of a sector of layout 1, None where it is free; as `read_inode_with`.
 pub fn read_inode(sector: &[u8; 512], half: u32) -> Result<Option<InodeValue>, Bad>
     requires { half < 2 }
     // What is read is spelled so.
@@ -45,8 +45,26 @@ pub fn read_inode(sector: &[u8; 512], half: u32) -> Result<Option<InodeValue>, B
     // What is spelled so is read.
     ensures only { (v : Option InodeValue) → IsSlot layout1 v → half_of sector.now half ≡ slot_bytes v → result ≡ Ok v }
 {
+    read_inode_with(sector, half, &Geom::layout1())
+}
+
+/// The inode in one half of a sector, None where it is free, in a layout of these sizes.
+///
+/// That its extents are in order and that its blocks are there is not looked at.
+pub fn read_inode_with(
+    sector: &[u8; 512],
+    half: u32,
+    geom: &Geom,
+) -> Result<Option<InodeValue>, Bad>
+    requires half { half < 2 }
+    requires geom { IsGeom geom.now }
+    // What is read is spelled so.
+    ensures found { IfOk result (λ v. IsSlot geom.now v × (half_of sector.now half ≡ slot_bytes v)) }
+    // What is spelled so is read.
+    ensures only { (v : Option InodeValue) → IsSlot geom.now v → half_of sector.now half ≡ slot_bytes v → result ≡ Ok v }
+{
     let at = 256 * half as usize;
-    match slot_of(&sector[at..at + 256]) {
+    match slot_of(&sector[at..at + 256], geom) {
         Some(value) => Ok(value),
         None => Err(Bad),
     }
@@ -58,9 +76,10 @@ pub fn inode_spelling()
     ensures unique { (g : Geom) (v w : InodeValue) → IsInode g v → IsInode g w → inode_bytes v ≡ inode_bytes w → v ≡ w }
 {}
 
-fn slot_of(bytes: &[u8]) -> Option<Option<InodeValue>>
-    requires { length bytes.now ≡ 256 }
-    ensures { result ≡ slot_at layout1 bytes.now }
+fn slot_of(bytes: &[u8], geom: &Geom) -> Option<Option<InodeValue>>
+    requires long { length bytes.now ≡ 256 }
+    requires geom { IsGeom geom.now }
+    ensures { result ≡ slot_at geom.now bytes.now }
 {
     if bytes[0] == 0 {
         return if is_zero_from(bytes, 0) {
@@ -70,40 +89,51 @@ fn slot_of(bytes: &[u8]) -> Option<Option<InodeValue>>
         };
     }
     let value = inode_of(bytes);
-    if spells(&value, bytes) {
+    if spells(&value, bytes, geom) {
         Some(Some(value))
     } else {
         None
     }
 }
 
-fn spells(value: &InodeValue, bytes: &[u8]) -> bool
-    ensures { result ≡ (inode_fits layout1 value.now && bytes_eq (inode_bytes value.now) bytes.now) }
+fn spells(value: &InodeValue, bytes: &[u8], geom: &Geom) -> bool
+    requires { IsGeom geom.now }
+    ensures { result ≡ (inode_fits geom.now value.now && bytes_eq (inode_bytes value.now) bytes.now) }
 {
-    fits(value) && write_inode(value).as_slice() == bytes
+    fits(value, geom) && write_inode(value).as_slice() == bytes
 }
 
 #[tactic(auto, unfolding(vx_layout::specs::Inodes::inode_fits))]
-fn fits(value: &InodeValue) -> bool
-    ensures { result ≡ inode_fits layout1 value.now }
+fn fits(value: &InodeValue, geom: &Geom) -> bool
+    requires { IsGeom geom.now }
+    ensures { result ≡ inode_fits geom.now value.now }
 {
     value.inode.attrs.flags < 32
         && value.inode.mode <= 4095
         && value.inode.nlink <= 32767
-        && value.maps <= 64
-        && value.extents <= 4038
-        && attrs_fit(&value.inode)
+        && value.maps as u32 <= geom.maps
+        && value.extents <= extents_limit(geom)
+        && attrs_fit(&value.inode, geom)
 }
 
-fn attrs_fit(inode: &Inode) -> bool
-    ensures { result ≡ attrs_fit layout1 inode.now }
+/// Six extents in the inode, and as many in each map block as it has places for.
+fn extents_limit(geom: &Geom) -> u32
+    requires { IsGeom geom.now }
+    ensures { result ≡ extents_limit geom.now }
+{
+    6 + geom.maps * (geom.block / 16 - 1)
+}
+
+fn attrs_fit(inode: &Inode, geom: &Geom) -> bool
+    ensures { result ≡ attrs_fit geom.now inode.now }
 {
     let attrs = &inode.attrs;
     match inode.kind {
         FileKind::File => {
-            inode.size <= 1 << 26
-                && attrs.fixed <= 4063
+            inode.size <= geom.limit
+                && attrs.fixed <= geom.per_unit
                 && attrs.reserve <= 65536
+                && attrs.reserve as u64 * geom.block as u64 <= geom.limit
                 && (attrs.flags & 8 == 0 || attrs.reserve == 0)
         }
         FileKind::Directory => {
@@ -176,18 +206,6 @@ fn place_of(bytes: &[u8], at: usize, index: u32, extents: u32) -> Option<Extent>
     }
 }
 
-fn extent_of(bytes: &[u8], at: usize) -> Extent
-    requires { at + 16 ≤ length bytes.now }
-    ensures { result ≡ extent_at at bytes.now }
-{
-    Extent {
-        page: Page::new(u32_at(bytes, at)),
-        start: Block::new(u32_at(bytes, at + 4)),
-        len: u32_at(bytes, at + 8),
-        kind: kind_of(u32_at(bytes, at + 12)),
-    }
-}
-
 fn map_of(bytes: &[u8], maps: u16) -> Option<Block>
     requires { 256 ≤ length bytes.now }
     ensures { result ≡ map_at maps bytes.now }
@@ -196,16 +214,6 @@ fn map_of(bytes: &[u8], maps: u16) -> Option<Block>
         Some(Block::new(u32_at(bytes, 128)))
     } else {
         None
-    }
-}
-
-fn kind_of(number: u32) -> Kind
-    ensures { result ≡ kind_from number }
-{
-    if number == 0 {
-        Kind::Data
-    } else {
-        Kind::Reserved
     }
 }
 
@@ -266,36 +274,6 @@ fn place_text(place: Option<Extent>) -> [u8; 16]
     }
 }
 
-#[tactic(auto, unfolding(vx_layout::specs::Inodes::extent_bytes))]
-fn extent_text(extent: Extent) -> [u8; 16]
-    ensures { result ≡ extent_bytes extent }
-{
-    let mut sheet = Sheet::<16>::new();
-    sheet.put_u32(extent.page.get());
-    sheet.put_u32(extent.start.get());
-    sheet.put_u32(extent.len);
-    sheet.put_u32(number_of_kind(extent.kind));
-    sheet.finish()
-}
-
-fn number_of_block(block: Option<Block>) -> u32
-    ensures { result ≡ unwrap_or block 0 }
-{
-    match block {
-        Some(block) => block.get(),
-        None => 0,
-    }
-}
-
-fn number_of_kind(kind: Kind) -> u32
-    ensures { result ≡ kind_number kind }
-{
-    match kind {
-        Kind::Data => 0,
-        Kind::Reserved => 1,
-    }
-}
-
 fn number_of_file_kind(kind: FileKind) -> u8
     ensures { result ≡ file_kind_number kind }
 {
@@ -308,6 +286,7 @@ fn number_of_file_kind(kind: FileKind) -> u8
 #[cfg(test)]
 mod tests {
     use super::*;
+    use vx_base::{Kind, Page};
 
     fn value(kind: FileKind, mode: u16, size: u64, block: Option<Extent>) -> InodeValue {
         let attrs = ExtAttrs {
@@ -368,5 +347,42 @@ mod tests {
         assert!(rt; read_inode(&sector, 0).is_err());
         sector[511] = 1;
         assert!(rt; read_inode(&sector, 1).is_err());
+    }
+
+    #[test]
+    fn large_file(rt: HostRuntime) {
+        let geom = Geom {
+            block: 8192,
+            per_unit: 4091,
+            maps: 8,
+            dirs: 8,
+            limit: 1 << 40,
+        };
+        let mut file = value(FileKind::File, 0o644, 1 << 40, None);
+        let sector = inode_sector(Some(&file), None);
+        assert!(rt; read_inode(&sector, 0).is_err());
+        assert!(rt; read_inode_with(&sector, 0, &geom).is_ok());
+        file.inode.size = (1 << 40) + 1;
+        let sector = inode_sector(Some(&file), None);
+        assert!(rt; read_inode_with(&sector, 0, &geom).is_err());
+    }
+
+    #[test]
+    fn reservation_past_a_small_limit(rt: HostRuntime) {
+        let geom = Geom {
+            block: 8192,
+            per_unit: 4091,
+            maps: 8,
+            dirs: 8,
+            limit: 1 << 26,
+        };
+        let mut file = value(FileKind::File, 0o644, 0, None);
+        file.inode.attrs.reserve = 8192;
+        let sector = inode_sector(Some(&file), None);
+        assert!(rt; read_inode_with(&sector, 0, &geom).is_ok());
+        file.inode.attrs.reserve = 8193;
+        let sector = inode_sector(Some(&file), None);
+        assert!(rt; read_inode_with(&sector, 0, &geom).is_err());
+        assert!(rt; read_inode(&sector, 0).is_ok());
     }
 }

@@ -1,12 +1,12 @@
 -- Where each place stands, for every block size.
-use Rattle.std.proofs.Common.{◌≡◌, ◌≢◌, ℕ, ◌+◌, ◌-◌, ◌*◌, ◌/◌, ◌%◌, ◌<◌, ◌≤◌, Bool, true, false, cond, refl, sym, ap, subst, ◌∙◌, arith, inl, inr, lit<}
+use Rattle.std.proofs.Common.{◌≡◌, ◌≢◌, ℕ, ◌+◌, ◌-◌, ◌*◌, ◌/◌, ◌%◌, ◌^◌, ◌<◌, ◌≤◌, Bool, true, false, cond, refl, sym, ap, subst, ◌∙◌, arith, inl, inr, lit<}
 use Rattle.std.specs.Prelude.{◌==◌, nat_lt, nat_le, IsTrue}
 use Rattle.std.proofs.lemmas.Bool.{eqb-true, le-ltb, lt-ltb, ltb-true, ltb-false, le-leb, lt-leb, leb-true, leb-false, ne_eqb, and_parts, and_from}
 use Rattle.std.proofs.lemmas.Nat.{div-mul-add, mod-mul-add, div-add-mod', div_below, mod_below, le-div}
 use Rattle.std.proofs.Math.Nat.{mul-le-mul_right}
-use Rattle.vx_layout.specs.Supers.{volume_of}
+use Rattle.vx_layout.specs.Supers.{volume_of, IsSuper}
 use Rattle.vx_layout.specs.declared.superblock.Super.{Super}
-use Rattle.vx_layout.specs.Places.{Volume, Place, outside, blank, bits, slots, part, per_block, unit_block, block_sector, bitmap_sector, pair_sector, inode_sector, first_data, is_data, place_in_unit, place_of, IsVolume, IsInside, IsPlaceOf, is_named}
+use Rattle.vx_layout.specs.Places.{Volume, Place, outside, blank, bits, slots, part, per_block, unit_block, block_sector, bitmap_sector, pair_sector, inode_sector, first_data, is_data, place_in_unit, place_of, sectors_of, IsVolume, IsInside, IsPlaceOf, is_named}
 
 -- ---- data blocks
 
@@ -192,6 +192,9 @@ inside_units v s is ne = is_inside v s (place_of v s) is ne (place_is v s is)
 
 pub super_volume : (v : Super) → IsVolume (volume_of v)
 super_volume v = record { some = lit< tt; even = refl }
+
+pub super_fits : (v : Super) → IsSuper v → sectors_of (volume_of v) ≤ 2 ^ 32
+super_fits v is = omega (arith, is.log_high, is.units_high)
 
 pub past_log : (v : Super) (s : ℕ) → place_of (volume_of v) s ≢ outside → 4 + 2 * v.log_blocks ≤ s
 past_log v s ne = let i = inside_units (volume_of v) s (super_volume v) ne in omega (arith, i.from)

@@ -58,12 +58,12 @@ abbrev pub is_directory : FileKind → Bool
 is_directory File = false
 is_directory Directory = true
 
--- what a file or a directory allows
+-- what a file or a directory allows; a file has no more pages reserved than it may have
 abbrev pub attrs_fit : Geom → Inode → Bool
 attrs_fit g i =
     if is_directory i.kind then i.attrs.flags == 0 && (i.nlink == 1 && (i.attrs.fixed == 0 && i.attrs.reserve == 0))
     else nat_le i.size g.limit && (nat_le i.attrs.fixed g.per_unit && (nat_le i.attrs.reserve 65536
-    && (bit_and i.attrs.flags 8 == 0 || i.attrs.reserve == 0)))
+    && (nat_le (i.attrs.reserve * g.block) g.limit && (bit_and i.attrs.flags 8 == 0 || i.attrs.reserve == 0))))
 
 -- six extents in the inode, and as many in each map block as it has room for
 abbrev pub extents_limit : Geom → ℕ

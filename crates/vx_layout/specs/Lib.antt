@@ -2,6 +2,8 @@ pub mod LogForms
 pub mod Fields
 pub mod Places
 pub mod Supers
+pub mod Geoms
 pub mod Inodes
+pub mod Maps
 pub mod Dirs
 pub mod Bits

@@ -1,11 +1,10 @@
 -- What each sector of a volume is there for, and where each thing stands.
 use Rattle.std.specs.Prelude.{◌≡◌, ◌⊎◌, ℕ, ◌+◌, ◌-◌, ◌*◌, ◌/◌, ◌%◌, ◌<◌, ◌≤◌, Bool, true, false, IsTrue, ◌==◌, ◌&&◌, nat_lt, nat_le, if◌then◌else◌, List, take, drop}
+use Rattle.vx_layout.specs.declared.volume.Volume.{Volume as Sizes}
 
 -- bytes in a block, the block where unit 0 starts, the number of units
-pub record Volume : Type 0 where
-  pub block : ℕ
-  pub first : ℕ
-  pub units : ℕ
+abbrev pub Volume : Type 0
+Volume = Sizes
 
 -- sectors in a block
 abbrev pub per_block : Volume → ℕ

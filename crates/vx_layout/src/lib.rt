@@ -10,4 +10,4 @@ mod volume;
 pub use sheet::Sheet;
 pub use spelling::{log_fields, log_spelling, super_spelling};
 pub use superblock::{BadSuper, Super, sectors_needed};
-pub use volume::{block_sector, places, super_places};
+pub use volume::{Volume, block_sector, geom_places, layout1_sizes, places, super_places};

@@ -5,19 +5,14 @@ ghost use Rattle.vx_layout.specs.Supers.{super_bytes, super_at, volume_of, IsSup
 
 use crate::fields::{is_zero_from, u32_at};
 use crate::sheet::Sheet;
+use crate::volume::Volume;
 use vx_base::{Block, Ino, SectorNo};
 
 /// Where the log starts, in blocks.
 const LOG_START: u32 = 2;
 
-/// Blocks in an allocation unit.
-const UNIT_BLOCKS: u32 = 4096;
-
-/// Inodes in an allocation unit.
-const UNIT_INODES: u32 = 128;
-
-/// Sectors in a block.
-const PER_BLOCK: u32 = 2;
+/// Bytes in a block.
+const BLOCK: u32 = 1024;
 
 /// What sector 0 says: the sizes of the log and of the volume, and whether it was left clean.
 #[derive(Clone, Copy, Debug)]
@@ -56,7 +51,7 @@ impl Super {
         let mut sheet = Sheet::<512>::new();
         sheet.put(b"VXPROF01");
         sheet.put_u32(1);
-        sheet.put_u32(1024);
+        sheet.put_u32(BLOCK);
         sheet.put_u32(self.log_blocks);
         sheet.put_u32(self.units);
         sheet.put_u32(LOG_START);
@@ -64,51 +59,56 @@ impl Super {
         sheet.finish()
     }
 
+    /// Where the units are.
+    pub fn volume(&self) -> Volume
+        requires { IsSuper self.now }
+        ensures { result ≡ volume_of self.now }
+    {
+        Volume {
+            block: BLOCK,
+            first: Block::new(LOG_START + self.log_blocks),
+            units: self.units,
+        }
+    }
+
     /// The first block of a unit, which holds the unit's bitmap.
+    #[tactic(auto, using(crate::proofs::Standing::super_volume, crate::proofs::Standing::super_fits))]
     pub fn unit_start(&self, u: u32) -> Block
         requires is { IsSuper self.now }
         requires there { u < self.now.units }
         ensures { result ≡ unit_block (volume_of self.now) u }
     {
-        Block::new(self.start_of(u))
+        self.volume().unit_start(u)
     }
 
     /// The sector of a unit's bitmap.
+    #[tactic(auto, using(crate::proofs::Standing::super_volume, crate::proofs::Standing::super_fits))]
     pub fn bitmap_place(&self, u: u32) -> SectorNo
         requires is { IsSuper self.now }
         requires there { u < self.now.units }
         ensures { result ≡ bitmap_sector (volume_of self.now) u }
     {
-        SectorNo::new(PER_BLOCK * self.start_of(u))
+        self.volume().bitmap_place(u)
     }
 
     /// The sector of an inode, and where in that sector it begins, 0 or 256.
+    #[tactic(auto, using(crate::proofs::Standing::super_volume, crate::proofs::Standing::super_fits))]
     pub fn inode_place(&self, ino: Ino) -> (SectorNo, u32)
         requires is { IsSuper self.now }
         requires there { ino < 128 * self.now.units }
         ensures sector { result.0 ≡ inode_sector (volume_of self.now) ino }
         ensures offset { result.1 ≡ inode_offset ino }
     {
-        let number = ino.get();
-        let slot = number % UNIT_INODES;
-        let start = PER_BLOCK * self.start_of(number / UNIT_INODES);
-        (
-            SectorNo::new(start + PER_BLOCK + slot / 2),
-            256 * (number % 2),
-        )
+        self.volume().inode_place(ino)
     }
 
     /// Whether a block is one of those that hold files and directories.
-    #[tactic(auto, unfolding(crate::specs::Places::is_data))]
+    #[tactic(auto, using(crate::proofs::Standing::super_volume))]
     pub fn is_data(&self, b: Block) -> bool
         requires { IsSuper self.now }
         ensures { result ≡ is_data (volume_of self.now) b }
     {
-        let number = b.get();
-        let first = LOG_START + self.log_blocks;
-        number >= first
-            && (number - first) / UNIT_BLOCKS < self.units
-            && (number - first) % UNIT_BLOCKS >= 33
+        self.volume().is_data(b)
     }
 
     fn parsed(bytes: &[u8]) -> Result<Super, BadSuper>
@@ -121,7 +121,7 @@ impl Super {
         if u32_at(bytes, 8) != 1 {
             return Err(BadSuper { field: 2 });
         }
-        if u32_at(bytes, 12) != 1024 {
+        if u32_at(bytes, 12) != BLOCK {
             return Err(BadSuper { field: 3 });
         }
         let log_blocks = u32_at(bytes, 16);
@@ -146,14 +146,6 @@ impl Super {
             units,
             clean: bytes[28] == 1,
         })
-    }
-
-    fn start_of(&self, u: u32) -> u32
-        requires is { IsSuper self.now }
-        requires there { u < self.now.units }
-        ensures { result ≡ unit_block (volume_of self.now) u }
-    {
-        LOG_START + self.log_blocks + UNIT_BLOCKS * u
     }
 }
 
