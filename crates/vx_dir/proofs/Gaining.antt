@@ -20,24 +20,24 @@ spot_at block ino = record { block = block; ino = ino }
 no_spot : (block : ℕ) (name : FileName) (es : Entries) → inode_in name es ≡ None → spot_in block name es ≡ None
 no_spot block name es none = ap (option_map (spot_at block)) none
 
-module _ (block : ℕ) (es : Entries) (i : ℕ) (e : DirEntry) (within : i < length es) (is : e ≡ get_or es i e) where
+module _ (es : Entries) (i : ℕ) (e : DirEntry) (within : i < length es) (is : e ≡ get_or es i e) where
   front : take (i + 1) es ≡ take i es ++ e ∷ []
   front = take_more es i e within ∙ ap (λ (x : DirEntry). take i es ++ x ∷ []) (sym is)
 
   -- the spots with one entry more, whether it has the name or not
-  gained_case : (before m : Spots) (q : FileName) (b : Bool) → is_named q e ≡ b → count_by (is_named q) es ≤ 1 → AreNew es before → HasGained block (take i es) before m
+  gained_case : (block : ℕ) (before m : Spots) (q : FileName) (b : Bool) → is_named q e ≡ b → count_by (is_named q) es ≤ 1 → AreNew es before → HasGained block (take i es) before m
       → cond b (Some (spot_at block e.ino)) (map.get m q) ≡ option_or (map.get before q) (option_or (spot_in block q (take i es)) (cond b (Some (spot_at block e.ino)) None))
-  gained_case before m q true named once new so_far =
+  gained_case block before m q true named once new so_far =
       let here : is_named q (get_or es i e) ≡ true = ap (is_named q) (sym is) ∙ named in
       let old : map.get before q ≡ None = new q (held_at q es i e within here) in
       let none : spot_in block q (take i es) ≡ None = no_spot block q (take i es) (not_before q es i e once within here) in
       sym (ap (λ (o : Option Spot). option_or o (option_or (spot_in block q (take i es)) (Some (spot_at block e.ino)))) old ∙ ap (λ (o : Option Spot). option_or o (Some (spot_at block e.ino))) none)
-  gained_case before m q false other once new so_far = so_far q ∙ ap (option_or (map.get before q)) (sym (or_none (spot_in block q (take i es))))
+  gained_case block before m q false other once new so_far = so_far q ∙ ap (option_or (map.get before q)) (sym (or_none (spot_in block q (take i es))))
 
-  pub gained_more : (before m after : Spots) → ((q : FileName) → count_by (is_named q) es ≤ 1) → AreNew es before → HasGained block (take i es) before m
+  pub gained_more : (block : ℕ) (before m after : Spots) → ((q : FileName) → count_by (is_named q) es ≤ 1) → AreNew es before → HasGained block (take i es) before m
       → after ≡ map.insert m e.name (spot_at block e.ino) → HasGained block (take (i + 1) es) before after
-  gained_more before m after distinct new so_far grown q =
-      ap (λ (n : Spots). map.get n q) grown ∙ get_inserted m e.name (spot_at block e.ino) q ∙ gained_case before m q (is_named q e) refl (distinct q) new so_far
+  gained_more block before m after distinct new so_far grown q =
+      ap (λ (n : Spots). map.get n q) grown ∙ get_inserted m e.name (spot_at block e.ino) q ∙ gained_case block before m q (is_named q e) refl (distinct q) new so_far
       ∙ ap (option_or (map.get before q)) (sym (ap (spot_in block q) front ∙ spot_push block q (take i es) e))
 
   lost_case : (before m : Spots) (q : FileName) (b : Bool) → HasLost (take i es) before m

@@ -39,7 +39,7 @@ is_false : (b : Bool) → b ≡ true → b ≡ false → ⊥
 is_false true t f = cc
 is_false false t f = cc
 
-map_found : {A B : Type 0} (f : A → B) (x : Option A) → is_some (option_map f x) ≡ is_some x
+pub map_found : {A B : Type 0} (f : A → B) (x : Option A) → is_some (option_map f x) ≡ is_some x
 map_found f None = refl
 map_found f (Some a) = refl
 

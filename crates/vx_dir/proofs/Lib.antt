@@ -2,6 +2,7 @@ pub mod Adding
 pub mod Each
 pub mod Gaining
 pub mod InBlock
+pub mod Indexing
 pub mod NameMap
 pub mod Packing
 pub mod Places

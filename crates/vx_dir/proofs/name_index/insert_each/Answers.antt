@@ -11,7 +11,7 @@ returns-in_err-insert-clause-others c = λ q off.
 
 pub loop-entry-preserved : goal.loop-entry-preserved
 loop-entry-preserved c =
-    gained_more c.args.block c.args.entries.now c.loop-entry.entry-index c.entry-item.result c.loop-entry-test.true c.entry-item.is c.args.index.now c.loop-entry.index c.insert.new.self
+    gained_more c.args.entries.now c.loop-entry.entry-index c.entry-item.result c.loop-entry-test.true c.entry-item.is c.args.block c.args.index.now c.loop-entry.index c.insert.new.self
     c.requires.distinct c.requires.new c.loop-entry.invariant c.in_ok-insert.ensures.ok
 
 pub returns-clause-others : goal.returns-clause-others
