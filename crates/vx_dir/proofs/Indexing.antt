@@ -8,14 +8,15 @@ use Rattle.std.specs.Ordering.{nat_cmp}
 use Rattle.std.proofs.lemmas.Bool.{cases_lt, cases_eq}
 use Rattle.std.proofs.lemmas.Bool.Decides.{nat_tests}
 use Rattle.std.proofs.lemmas.Slice.Eq.{bytes_eq-Decides}
-use Rattle.std.proofs.lemmas.List.{get_or_past, get_or-set_same, get_or-set_other, get_or_append_left}
+use Rattle.std.proofs.lemmas.List.{length-take-le, take_more, get_or_past, get_or-set_same, get_or-set_other, get_or_append_left}
 use Rattle.std.proofs.Math.Seq.{get_or-append_seam}
 use Rattle.std.proofs.lemmas.List.Folds.{position_or_len-set}
 use Rattle.std.proofs.lemmas.List.Sums.{position_or_len_is, fails_before_first, passes_at_first, get_or-le-sum_by, sum_by-set, sum_by_push, sum_by-take-le}
+use Rattle.std.proofs.lemmas.List.Elements.{All-nil}
 use Rattle.vx_base.specs.Paths.{FileName}
 use Rattle.vx_base.specs.declared.inode.DirEntry.{DirEntry}
-use Rattle.vx_dir.specs.Sizes.{Entries}
-use Rattle.vx_dir.specs.Directories.{is_named, place_of, holds, block_of, inode_in, name_count, HasDistinctNames, blocks_with, without_entry}
+use Rattle.vx_dir.specs.Sizes.{Entries, used_by}
+use Rattle.vx_dir.specs.Directories.{IsKept, empty, entry_room, HasShortNames, is_named, place_of, holds, block_of, inode_in, name_count, HasDistinctNames, blocks_with, without_entry}
 use Rattle.vx_dir.specs.declared.name_index.Spot.{Spot}
 use Rattle.vx_dir.specs.Index.{Spots, spot_in, spot_of, Indexes, AreNew, HasGained}
 use Rattle.vx_dir.proofs.Adding.{absent}
@@ -44,7 +45,7 @@ absent_spot name blocks none =
 unlisted : (name : FileName) (blocks : List Entries) → length blocks ≤ block_of name blocks → spot_of name blocks ≡ None
 unlisted name blocks past = absent_spot name blocks (absent blocks name past)
 
-pub listed : (name : FileName) (blocks : List Entries) → is_some (spot_of name blocks) ≡ nat_lt (block_of name blocks) (length blocks)
+listed : (name : FileName) (blocks : List Entries) → is_some (spot_of name blocks) ≡ nat_lt (block_of name blocks) (length blocks)
 listed name blocks = elim (cases_lt (block_of name blocks) (length blocks)) [
   | inl lt ↦
       let t : nat_lt (block_of name blocks) (length blocks) ≡ true = grind (arith, nat_tests) in
@@ -71,7 +72,7 @@ spot_none k (Some ino) h = cc
 
 module _ (name : FileName) (blocks : List Entries) (i : ℕ) (b : Entries) where
   -- .. for other names
-  pub spot_set : i < length blocks → inode_in name b ≡ inode_in name (get_or blocks i []) → spot_of name (set blocks i b) ≡ spot_of name blocks
+  spot_set : i < length blocks → inode_in name b ≡ inode_in name (get_or blocks i []) → spot_of name (set blocks i b) ≡ spot_of name blocks
   spot_set within same =
       let held : holds name b ≡ holds name (get_or blocks i []) = holds_inode name b ∙ ap (λ (o : Option ℕ). is_some o) same ∙ sym (holds_inode name (get_or blocks i [])) in
       let k : ℕ = block_of name blocks in
@@ -82,7 +83,7 @@ module _ (name : FileName) (blocks : List Entries) (i : ℕ) (b : Entries) where
       ap (λ (n : ℕ). spot_in n name (get_or (set blocks i b) n [])) (position_or_len-set (holds name) blocks i b [] held) ∙ ap (option_map (spot_at k)) inode
 
   -- .. for a name that none held
-  pub spot_new : (ino : ℕ) → i < length blocks → length blocks ≤ block_of name blocks → inode_in name b ≡ Some ino → spot_of name (set blocks i b) ≡ Some (spot_at i ino)
+  spot_new : (ino : ℕ) → i < length blocks → length blocks ≤ block_of name blocks → inode_in name b ≡ Some ino → spot_of name (set blocks i b) ≡ Some (spot_at i ino)
   spot_new ino within new is =
       let held : holds name b ≡ true = holds_inode name b ∙ ap (λ (o : Option ℕ). is_some o) is in
       let at : get_or (set blocks i b) i [] ≡ b = get_or-set_same blocks i b [] within in
@@ -194,14 +195,27 @@ module _ (blocks : List Entries) (spots : Spots) (index : Indexes blocks spots) 
 
   -- ---- what the index answers
 
-  pub index_holds : (name : FileName) → map.contains_key spots name ≡ nat_lt (block_of name blocks) (length blocks)
+  index_holds : (name : FileName) → map.contains_key spots name ≡ nat_lt (block_of name blocks) (length blocks)
   index_holds name = ap (λ (o : Option Spot). is_some o) (index name) ∙ listed name blocks
 
-  pub index_finds : (name : FileName) (s : Spot) → map.get spots name ≡ Some s → (block_of name blocks ≡ s.block) × (inode_in name (get_or blocks (block_of name blocks) []) ≡ Some s.ino)
-  index_finds name s found = spot_is (block_of name blocks) (inode_in name (get_or blocks (block_of name blocks) [])) s (sym (index name) ∙ found)
+  pub is_there : (name : FileName) → map.contains_key spots name ≡ true → block_of name blocks < length blocks
+  is_there name on = let t : nat_lt (block_of name blocks) (length blocks) ≡ true = sym (index_holds name) ∙ on in grind (arith, nat_tests)
 
-  pub index_misses : (name : FileName) → map.get spots name ≡ None → inode_in name (get_or blocks (block_of name blocks) []) ≡ None
-  index_misses name none = spot_none (block_of name blocks) (inode_in name (get_or blocks (block_of name blocks) [])) (sym (index name) ∙ none)
+  pub is_new : (name : FileName) → map.contains_key spots name ≡ false → length blocks ≤ block_of name blocks
+  is_new name off = let f : nat_lt (block_of name blocks) (length blocks) ≡ false = sym (index_holds name) ∙ off in grind (arith, nat_tests)
+
+  pub lacks_new : (name : FileName) → length blocks ≤ block_of name blocks → map.get spots name ≡ None
+  lacks_new name new = index name ∙ unlisted name blocks new
+
+  -- a spot says where the name stands and what it means
+  pub found : (name : FileName) (s : Spot) → map.get spots name ≡ Some s → (block_of name blocks ≡ s.block) × (inode_in name (get_or blocks (block_of name blocks) []) ≡ Some s.ino)
+  found name s is = spot_is (block_of name blocks) (inode_in name (get_or blocks (block_of name blocks) [])) s (sym (index name) ∙ is)
+
+  pub found_there : (name : FileName) (s : Spot) → map.get spots name ≡ Some s → block_of name blocks < length blocks
+  found_there name s is = is_there name (ap (λ (o : Option Spot). is_some o) is)
+
+  pub missed : (name : FileName) → map.get spots name ≡ None → inode_in name (get_or blocks (block_of name blocks) []) ≡ None
+  missed name none = spot_none (block_of name blocks) (inode_in name (get_or blocks (block_of name blocks) [])) (sym (index name) ∙ none)
 
 pub no_index : Indexes [] map.empty
 no_index q = map.get-empty (slice_cmp nat_cmp) q
@@ -211,3 +225,34 @@ distinct_last blocks b distinct q = omega (arith, distinct q, sum_by_push (λ (x
 
 pub distinct_front : (blocks : List Entries) (i : ℕ) → HasDistinctNames blocks → HasDistinctNames (take i blocks)
 distinct_front blocks i distinct q = omega (arith, distinct q, sum_by-take-le (λ (x : Entries). count_by (is_named q) x) blocks i)
+
+pub kept_empty : (block_size limit : ℕ) → 1024 ≤ block_size → block_size ≤ 8192 → limit ≤ 64 → IsKept (empty block_size limit)
+kept_empty block_size limit least greatest few = record {
+  least_size = least;
+  greatest_size = greatest;
+  few_blocks = few;
+  within = omega arith;
+  fits = All-nil (λ (b : Entries). used_by b ≤ entry_room block_size);
+  short = All-nil HasShortNames;
+  distinct = λ q. omega arith;
+}
+
+-- ---- the blocks so far, and the next
+
+module _ (blocks : List Entries) (i : ℕ) (b : Entries) (within : i < length blocks) (is : b ≡ get_or blocks i b) where
+  next : take (i + 1) blocks ≡ take i blocks ++ b ∷ []
+  next = take_more blocks i b within ∙ ap (λ (x : Entries). take i blocks ++ x ∷ []) (sym is)
+
+  distinct_next : HasDistinctNames blocks → HasDistinctNames (take i blocks ++ b ∷ [])
+  distinct_next distinct = subst HasDistinctNames next (distinct_front blocks (i + 1) distinct)
+
+  pub distinct_at : HasDistinctNames blocks → (q : FileName) → count_by (is_named q) b ≤ 1
+  distinct_at distinct = distinct_last (take i blocks) b (distinct_next distinct)
+
+  pub new_at : (spots : Spots) → Indexes (take i blocks) spots → HasDistinctNames blocks → AreNew b spots
+  new_at spots index distinct = new_names (take i blocks) spots index b (distinct_next distinct)
+
+  pub indexes_more : (spots after : Spots) → Indexes (take i blocks) spots → HasGained i b spots after → Indexes (take (i + 1) blocks) after
+  indexes_more spots after index gained =
+      let long : length (take i blocks) ≡ i = length-take-le i blocks (omega arith) in
+      subst (λ (bs : List Entries). Indexes bs after) (sym next) (indexes_further (take i blocks) spots index b after (subst (λ (n : ℕ). HasGained n b spots after) (sym long) gained))
