@@ -1,11 +1,11 @@
 //! One block of a directory.
-ghost use Rattle.std.specs.Prelude.{◌≡◌, ◌+◌, ◌^◌, ◌<◌, ◌≤◌, ◌++◌, ◌∷◌, [], length, OnOk, OnErr, IsTrue, Some};
-ghost use Rattle.vx_dir.specs.Directories.{place_of, holds, is_named, inode_in, without_entry};
+ghost use Rattle.std.specs.Prelude.{◌≡◌, ◌+◌, ◌^◌, ◌<◌, ◌≤◌, ◌++◌, ◌∷◌, [], length, OnOk, OnErr, IsTrue};
+ghost use Rattle.vx_dir.specs.Directories.{place_of, holds, is_named, without_entry};
 ghost use Rattle.vx_dir.specs.Sizes.{entry_size, used_by};
 
 use std::alloc::{AllocError, Global};
 use std::marker::Model;
-use vx_base::{DirEntry, Ino, Name};
+use vx_base::{DirEntry, Name};
 
 /// The entries of a block, in the order in which they stand there.
 #[derive(Debug, Drop)]

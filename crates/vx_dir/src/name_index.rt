@@ -100,11 +100,7 @@ impl NameIndex {
 }
 
 // Where memory is short, some of the names have their spots.
-fn insert_each(
-    index: &mut NameIndex,
-    block: u32,
-    entries: &[DirEntry],
-) -> Result<(), AllocError>
+fn insert_each(index: &mut NameIndex, block: u32, entries: &[DirEntry]) -> Result<(), AllocError>
     requires distinct { (name : FileName) → count_by (is_named name) entries.now ≤ 1 }
     requires new { AreNew entries.now index.old }
     ensures ok { OnOk result (HasGained block entries.now index.old index.new) }

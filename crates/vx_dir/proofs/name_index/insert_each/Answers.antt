@@ -1,7 +1,6 @@
-use Rattle.std.proofs.Common.{◌≡◌, List, length, take, sym, ◌∙◌, ap, subst}
+use Rattle.std.proofs.Common.{◌∙◌, ap}
 use Rattle.std.specs.FinMap as map
-use Rattle.vx_dir.specs.Index.{Spots, HasGained}
-use Rattle.vx_dir.specs.Sizes.{Entries}
+use Rattle.vx_dir.specs.Index.{Spots}
 use Rattle.vx_dir.proofs.Gaining.{gained_more, others_as_before}
 use Rattle.vx_dir.proofs.name_index.insert_each.Goals as goal
 

@@ -32,15 +32,17 @@ invariant_of-self c =
     let is : block_of c.args.name.now d.blocks ≡ c.in-Some.spot.block = (found d.blocks c.self.inside.index c.self.invariant.1 c.args.name.now c.in-Some.spot got).0 in
     let there : block_of c.args.name.now d.blocks < length d.blocks = found_there d.blocks c.self.inside.index c.self.invariant.1 c.args.name.now c.in-Some.spot got in
     let items = with_items_is c.self.inside.blocks c.remove_at.new.blocks (c.remove_at.auto.blocks ∙ c.as_mut_slice.ensures.len) in
-    rw (items, c.remove_at.ensures, c.as_mut_slice.ensures.value, c.remove.ensures.removed)
-    (kept_without d c.self.invariant.0 c.args.name.now c.in-Some.spot.block (sym is) (omega arith),
-    indexes_without d.blocks c.self.inside.index c.self.invariant.1 c.args.name.now c.in-Some.spot.block (sym is) (omega arith) c.self.invariant.0.distinct)
+    rw (items, c.remove_at.ensures, c.as_mut_slice.ensures.value, c.remove.ensures.removed) (
+      kept_without d c.self.invariant.0 c.args.name.now c.in-Some.spot.block (sym is) (omega arith),
+      indexes_without d.blocks c.self.inside.index c.self.invariant.1 c.args.name.now c.in-Some.spot.block (sym is) (omega arith) c.self.invariant.0.distinct,
+    )
 
 pub invariant_of-self-in-None : goal.invariant_of-self-in-None
 invariant_of-self-in-None c =
-    let none : map.get c.self.inside.index c.args.name.now ≡ None = sym c.remove.ensures.spot ∙ c.in-None.is in
-    (c.self.invariant.0,
-    subst (Indexes c.self.inside.blocks.items) (sym c.remove.ensures.removed) (indexes_as_before c.self.inside.blocks.items c.self.inside.index c.self.invariant.1 c.args.name.now none))
+    let none : map.get c.self.inside.index c.args.name.now ≡ None = sym c.remove.ensures.spot ∙ c.in-None.is in (
+      c.self.invariant.0,
+      subst (Indexes c.self.inside.blocks.items) (sym c.remove.ensures.removed) (indexes_as_before c.self.inside.blocks.items c.self.inside.index c.self.invariant.1 c.args.name.now none),
+    )
 
 pub returns-in-Some-clause-inode : goal.returns-in-Some-clause-inode
 returns-in-Some-clause-inode c =

@@ -43,8 +43,9 @@ invariant_of-self c =
       | then-len+in_ok-index w ↦
           let blocks = c.in_ok-packed.ensures in
           let fewer : length (packed (c.self.inside.block_size - 4) c.as_slice-2.result.now) < length d.blocks = omega (arith, ap (λ (bs : List Entries). length bs) blocks) in
-          subst IsWhole (sym w.self-inside-is)
-          (subst (λ (bs : List Entries). IsKept (record d { blocks = bs })) (sym blocks) (kept_packed d c.as_slice-2.result.now c.self.invariant.0 same fewer),
-          subst (λ (bs : List Entries). Indexes bs w.in_ok-index.index) w.as_slice-then-len.ensures.value w.in_ok-index.ensures)
+          subst IsWhole (sym w.self-inside-is) (
+            subst (λ (bs : List Entries). IsKept (record d { blocks = bs })) (sym blocks) (kept_packed d c.as_slice-2.result.now c.self.invariant.0 same fewer),
+            subst (λ (bs : List Entries). Indexes bs w.in_ok-index.index) w.as_slice-then-len.ensures.value w.in_ok-index.ensures,
+          )
       | else-len w ↦ subst IsWhole (sym w.self-inside-is) c.self.invariant
     ]
