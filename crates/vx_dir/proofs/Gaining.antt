@@ -12,10 +12,7 @@ use Rattle.vx_dir.specs.Directories.{is_named, holds, inode_in}
 use Rattle.vx_dir.specs.declared.name_index.Spot.{Spot}
 use Rattle.vx_dir.specs.Index.{Spots, spot_in, AreNew, HasGained, HasLost}
 use Rattle.vx_dir.proofs.NameMap.{same_names, get_inserted, get_removed}
-use Rattle.vx_dir.proofs.InBlock.{or_none, some_after, holds_inode, inode_push, spot_push, held_at, not_before, not_in_front}
-
-abbrev spot_at : ℕ → ℕ → Spot
-spot_at block ino = record { block = block; ino = ino }
+use Rattle.vx_dir.proofs.InBlock.{spot_at, or_none, some_after, holds_inode, inode_push, spot_push, held_at, not_before, not_in_front}
 
 no_spot : (block : ℕ) (name : FileName) (es : Entries) → inode_in name es ≡ None → spot_in block name es ≡ None
 no_spot block name es none = ap (option_map (spot_at block)) none

@@ -17,6 +17,9 @@ use Rattle.vx_dir.specs.Index.{spot_in}
 use Rattle.vx_dir.proofs.Places.{count_none}
 use Rattle.vx_dir.proofs.Removing.{nobody}
 
+abbrev pub spot_at : ℕ → ℕ → Spot
+spot_at block ino = record { block = block; ino = ino }
+
 -- ---- options
 
 map_or : {A B : Type 0} (f : A → B) (x y : Option A) → option_map f (option_or x y) ≡ option_or (option_map f x) (option_map f y)

@@ -22,10 +22,7 @@ use Rattle.vx_dir.specs.Index.{Spots, spot_in, spot_of, Indexes, AreNew, HasGain
 use Rattle.vx_dir.proofs.Adding.{absent}
 use Rattle.vx_dir.proofs.Places.{count_none}
 use Rattle.vx_dir.proofs.NameMap.{get_inserted, get_removed}
-use Rattle.vx_dir.proofs.InBlock.{or_none, map_found, holds_inode, no_inode, inode_push, inode_without, count_without}
-
-abbrev spot_at : ℕ → ℕ → Spot
-spot_at block ino = record { block = block; ino = ino }
+use Rattle.vx_dir.proofs.InBlock.{spot_at, or_none, map_found, holds_inode, no_inode, inode_push, inode_without, count_without}
 
 none_if : {A : Type 0} (x : Option A) → is_some x ≡ false → x ≡ None
 none_if None h = refl

@@ -85,10 +85,7 @@ impl DirBlocks {
     pub fn find(&self, name: &Name) -> Option<Ino>
         ensures { result ≡ inode_of self.now name.now }
     {
-        match self.index.find(name) {
-            Some(spot) => Some(spot.ino),
-            None => None,
-        }
+        self.index.find(name).map(|spot| spot.ino)
     }
 
     /// The block that an entry of this name would go to, or why there is none.
