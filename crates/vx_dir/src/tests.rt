@@ -103,7 +103,7 @@ fn found_as_by_walking(rt: HostRuntime) -> Result<(), Fail> {
     }
     assert_eq!(rt; directory.blocks(), 3);
     assert!(rt; finds_as_by_walking(rt.alloc(), &directory)?);
-    // All but the first ten, and then half of these again.
+    // All but the first ten go, and then thirty of them come back.
     for len in 11..60 {
         let name = letters(rt.alloc(), len)?;
         assert!(rt; directory.remove(&name).is_ok());
