@@ -1,5 +1,9 @@
 pub mod Adding
 pub mod Each
+pub mod Gaining
+pub mod InBlock
+pub mod Indexing
+pub mod NameMap
 pub mod Packing
 pub mod Places
 pub mod Removing

@@ -10,7 +10,7 @@ use Rattle.vx_dir.specs.Sizes.{Entries, entry_size, used_by}
 use Rattle.vx_dir.proofs.Each.{each_without}
 use Rattle.vx_dir.specs.Directories.{IsShort, Directory, IsKept, holds, block_of, is_named, place_of, HasDistinctNames, entry_room, without_entry}
 
-nobody : DirEntry
+pub nobody : DirEntry
 nobody = record { ino = 0; name = [] }
 
 module _ (name : FileName) (entries : Entries) (there : holds name entries ≡ true) where

@@ -1,11 +1,11 @@
 //! One block of a directory.
-ghost use Rattle.std.specs.Prelude.{◌≡◌, ◌+◌, ◌^◌, ◌<◌, ◌≤◌, ◌++◌, ◌∷◌, [], length, OnOk, OnErr, IsTrue, Some};
-ghost use Rattle.vx_dir.specs.Directories.{place_of, holds, is_named, inode_in, without_entry};
+ghost use Rattle.std.specs.Prelude.{◌≡◌, ◌+◌, ◌^◌, ◌<◌, ◌≤◌, ◌++◌, ◌∷◌, [], length, OnOk, OnErr, IsTrue};
+ghost use Rattle.vx_dir.specs.Directories.{place_of, holds, is_named, without_entry};
 ghost use Rattle.vx_dir.specs.Sizes.{entry_size, used_by};
 
 use std::alloc::{AllocError, Global};
 use std::marker::Model;
-use vx_base::{DirEntry, Ino, Name};
+use vx_base::{DirEntry, Name};
 
 /// The entries of a block, in the order in which they stand there.
 #[derive(Debug, Drop)]
@@ -56,23 +56,6 @@ impl DirBlock {
         self.entries.as_slice()
     }
 
-    pub fn holds(&self, name: &Name) -> bool
-        ensures { result ≡ holds name.now self.now }
-    {
-        place_of(self.entries.as_slice(), name) < self.entries.len()
-    }
-
-    pub fn inode_of(&self, name: &Name) -> Option<Ino>
-        ensures { result ≡ inode_in name.now self.now }
-    {
-        let at = place_of(self.entries.as_slice(), name);
-        if at < self.entries.len() {
-            Some(self.entries[at].ino)
-        } else {
-            None
-        }
-    }
-
     /// Adds an entry behind the last; unchanged where memory is short.
     pub fn push(&mut self, entry: DirEntry) -> Result<(), AllocError>
         requires { used_by self.old + entry_size entry < 2 ^ 32 }
@@ -85,16 +68,14 @@ impl DirBlock {
         Ok(())
     }
 
-    /// Removes the entry of a name, and answers its inode.
-    pub fn remove(&mut self, name: &Name) -> Ino
+    /// Removes the entry of a name.
+    pub fn remove(&mut self, name: &Name)
         requires { IsTrue (holds name.now self.old) }
-        ensures inode { inode_in name.now self.old ≡ Some result }
-        ensures left { self.new ≡ without_entry name.now self.old }
+        ensures { self.new ≡ without_entry name.now self.old }
     {
         let at = place_of(self.entries.as_slice(), name);
         let entry = self.entries.remove(at);
         self.used -= 5 + entry.name.as_slice().len() as u32;
-        entry.ino
     }
 }
 

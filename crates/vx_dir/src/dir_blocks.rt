@@ -2,10 +2,12 @@
 ghost use Rattle.std.specs.Prelude.{◌≡◌, ◌⊎◌, ◌+◌, ◌^◌, ◌≤◌, ◌<◌, ◌++◌, ◌∷◌, [], length, OnOk, OnErr, IfOk, IsTrue, Err, Some, None, map, slice_get, slice_set};
 ghost use Rattle.std.specs.List.{All, flat_map, sum_by, position_or_len};
 ghost use Rattle.std.specs.List.Sorted.{IsPermutation, IsSorted};
-ghost use Rattle.vx_dir.specs.Directories.{empty, entry_room, entry_count, has_room, block_of, block_at, inode_of, HasDistinctNames, HasShortNames, with_block, blocks_with, with_entry, add_answer, holds, inode_in, without_entry, without_name, AreNames, by_name, last_place, put_last, packed, IsTightened, IsKept};
+ghost use Rattle.vx_dir.specs.Directories.{empty, entry_room, entry_count, has_room, block_of, block_at, inode_of, HasDistinctNames, HasShortNames, with_block, blocks_with, with_entry, add_answer, holds, without_entry, without_name, AreNames, by_name, last_place, put_last, packed, IsTightened, IsKept};
+ghost use Rattle.vx_dir.specs.Index.{Indexes};
 ghost use Rattle.vx_dir.specs.Sizes.{used_by, entry_size};
 
 use crate::block::DirBlock;
+use crate::name_index::{NameIndex, Spot};
 use crate::refusal::{DirRefusal, NoEnt};
 use std::alloc::{AllocError, Global};
 use std::marker::Model;
@@ -17,16 +19,19 @@ pub struct DirBlocks {
     block_size: u32,
     limit: u32,
     blocks: Vec<DirBlock>,
+    // Where each name stands.
+    index: NameIndex,
 }
 
 impl Model for DirBlocks {
     ghost use Rattle.vx_dir.specs.Directories.{Directory, IsKept};
+    ghost use Rattle.vx_dir.specs.Index.{Indexes};
 
     ghost Value = { Directory };
 
     ghost view = { λ a. record { block_size = a.block_size; limit = a.limit; blocks = a.blocks.items } };
 
-    ghost invariant = { λ a. IsKept (record { block_size = a.block_size; limit = a.limit; blocks = a.blocks.items }) };
+    ghost invariant = { λ a. IsKept (record { block_size = a.block_size; limit = a.limit; blocks = a.blocks.items }) × Indexes a.blocks.items a.index };
 }
 
 impl DirBlocks {
@@ -48,6 +53,7 @@ impl DirBlocks {
             block_size: geom.block,
             limit: geom.dirs,
             blocks: Vec::new(alloc),
+            index: NameIndex::new(alloc),
         }
     }
 
@@ -79,12 +85,7 @@ impl DirBlocks {
     pub fn find(&self, name: &Name) -> Option<Ino>
         ensures { result ≡ inode_of self.now name.now }
     {
-        let at = block_of(self.blocks.as_slice(), name);
-        if at < self.blocks.len() {
-            self.blocks[at].inode_of(name)
-        } else {
-            None
-        }
+        self.index.find(name).map(|spot| spot.ino)
     }
 
     /// The block that an entry of this name would go to, or why there is none.
@@ -92,14 +93,13 @@ impl DirBlocks {
         requires { length name.now ≤ 255 }
         ensures { result ≡ add_answer self.now name.now }
     {
-        let count = self.blocks.len();
-        if block_of(self.blocks.as_slice(), name) < count {
+        if self.index.holds(name) {
             return Err(DirRefusal::Exist);
         }
         let size = 5 + name.as_slice().len() as u32;
         let place = place_for(self.blocks.as_slice(), self.block_size - 4, size);
         if place == self.limit as usize {
-            let end = u64::from(self.block_size) * (count as u64 + 1);
+            let end = u64::from(self.block_size) * (self.blocks.len() as u64 + 1);
             return Err(DirRefusal::TooBig { end });
         }
         Ok(place as u32)
@@ -121,9 +121,7 @@ impl DirBlocks {
         ensures ok { OnOk result (self.new ≡ with_block self.old block.now) }
         ensures err { OnErr result (self.new ≡ self.old) }
     {
-        let block = copy_of(*self.blocks.allocator(), block.as_slice())?;
-        self.blocks.push(block)?;
-        Ok(())
+        push_block(&mut self.blocks, &mut self.index, block.as_slice())
     }
 
     /// Adds an entry to the first block with room, or else to a new last block, and answers the block's number.
@@ -134,7 +132,7 @@ impl DirBlocks {
         ensures added { OnOk result (self.new ≡ with_entry self.old (record { ino = ino; name = name.now })) }
         ensures unchanged { OnErr result (self.new ≡ self.old) }
     {
-        if block_of(self.blocks.as_slice(), name) < self.blocks.len() {
+        if self.index.holds(name) {
             return Err(DirRefusal::Exist);
         }
         let size = 5 + name.as_slice().len() as u32;
@@ -143,7 +141,7 @@ impl DirBlocks {
             let end = u64::from(self.block_size) * (self.blocks.len() as u64 + 1);
             return Err(DirRefusal::TooBig { end });
         }
-        match add_at(&mut self.blocks, at, name, ino) {
+        match enter(&mut self.blocks, &mut self.index, at, name, ino) {
             Ok(()) => Ok(at as u32),
             Err(_) => Err(DirRefusal::NoMemory),
         }
@@ -157,11 +155,13 @@ impl DirBlocks {
         ensures removed { OnOk result (self.new ≡ without_name self.old name.now) }
         ensures unchanged { OnErr result (self.new ≡ self.old) }
     {
-        let at = block_of(self.blocks.as_slice(), name);
-        if at >= self.blocks.len() {
-            return Err(NoEnt);
+        match self.index.remove(name) {
+            Some(spot) => {
+                remove_at(self.blocks.as_mut_slice(), spot.block as usize, name);
+                Ok(spot.ino)
+            }
+            None => Err(NoEnt),
         }
-        Ok(remove_at(self.blocks.as_mut_slice(), at, name))
     }
 
     /// The names of all entries, in the order of their bytes.
@@ -179,10 +179,12 @@ impl DirBlocks {
         ensures { IfOk result (λ copy. copy ≡ self.now) }
     {
         let blocks = copies_of(*self.blocks.allocator(), self.blocks.as_slice())?;
+        let index = self.index.copy()?;
         Ok(DirBlocks {
             block_size: self.block_size,
             limit: self.limit,
             blocks,
+            index,
         })
     }
 
@@ -197,7 +199,9 @@ impl DirBlocks {
         let entries = sorted_entries(alloc, self.blocks.as_slice())?;
         let packed = pack(alloc, self.block_size - 4, entries.as_slice())?;
         if packed.len() < self.blocks.len() {
+            let index = index_of(alloc, packed.as_slice())?;
             self.blocks = packed;
+            self.index = index;
         }
         Ok(self.blocks.len() as u32)
     }
@@ -306,13 +310,12 @@ fn list_of(alloc: Global, names: &[Name]) -> Result<Names, AllocError>
     Ok(list)
 }
 
-fn remove_at(blocks: &mut [DirBlock], at: usize, name: &Name) -> Ino
+fn remove_at(blocks: &mut [DirBlock], at: usize, name: &Name)
     requires within { at < length blocks.old }
     requires holds { IsTrue (holds name.now (block_at blocks.old at)) }
-    ensures inode { inode_in name.now (block_at blocks.old at) ≡ Some result }
-    ensures left { blocks.new ≡ slice_set blocks.old at (without_entry name.now (block_at blocks.old at)) }
+    ensures { blocks.new ≡ slice_set blocks.old at (without_entry name.now (block_at blocks.old at)) }
 {
-    blocks[at].remove(name)
+    blocks[at].remove(name);
 }
 
 fn count(blocks: &[DirBlock]) -> u32
@@ -327,18 +330,6 @@ fn count(blocks: &[DirBlock]) -> u32
     count
 }
 
-// The first block that holds a name, or the number of blocks.
-fn block_of(blocks: &[DirBlock], name: &Name) -> usize
-    ensures { result ≡ block_of name.now blocks.now }
-{
-    for i in 0..blocks.len() {
-        if blocks[i].holds(name) {
-            return i;
-        }
-    }
-    blocks.len()
-}
-
 // The first block with room for so many bytes, or the number of blocks.
 fn place_for(blocks: &[DirBlock], room: u32, size: u32) -> usize
     requires { size ≤ room }
@@ -350,6 +341,19 @@ fn place_for(blocks: &[DirBlock], room: u32, size: u32) -> usize
         }
     }
     blocks.len()
+}
+
+// The index of the names of these blocks.
+fn index_of(alloc: Global, blocks: &[DirBlock]) -> Result<NameIndex, AllocError>
+    requires few { length blocks.now ≤ 64 }
+    requires distinct { HasDistinctNames blocks.now }
+    ensures { IfOk result (λ index. Indexes blocks.now index) }
+{
+    let mut index = NameIndex::new(alloc);
+    for i in 0..blocks.len() {
+        index.insert_entries(i as u32, blocks[i].as_slice())?;
+    }
+    Ok(index)
 }
 
 fn copies_of(alloc: Global, blocks: &[DirBlock]) -> Result<Vec<DirBlock>, AllocError>
@@ -376,6 +380,60 @@ fn copy_of(alloc: Global, entries: &[DirEntry]) -> Result<DirBlock, AllocError>
         })?;
     }
     Ok(block)
+}
+
+// Adds a last block of these entries, and their names to the index.
+fn push_block(
+    blocks: &mut Vec<DirBlock>,
+    index: &mut NameIndex,
+    entries: &[DirEntry],
+) -> Result<(), AllocError>
+    requires few { length blocks.old.items < 64 }
+    requires size { used_by entries.now < 2 ^ 32 }
+    requires distinct { HasDistinctNames (blocks.old.items ++ entries.now ∷ []) }
+    requires indexed { Indexes blocks.old.items index.old }
+    ensures ok { OnOk result (blocks.new.items ≡ blocks.old.items ++ entries.now ∷ []) }
+    ensures err { OnErr result (blocks.new.items ≡ blocks.old.items) }
+    ensures indexed { Indexes blocks.new.items index.new }
+{
+    let at = blocks.len() as u32;
+    let block = copy_of(*blocks.allocator(), entries)?;
+    blocks.push(block)?;
+    match index.insert_entries(at, entries) {
+        Ok(()) => Ok(()),
+        Err(error) => {
+            blocks.pop();
+            Err(error)
+        }
+    }
+}
+
+// Adds an entry to block `at`, or to a new last one, and its name to the index.
+fn enter(
+    blocks: &mut Vec<DirBlock>,
+    index: &mut NameIndex,
+    at: usize,
+    name: &Name,
+    ino: Ino,
+) -> Result<(), AllocError>
+    requires few { length blocks.old.items ≤ 64 }
+    requires place { at ≤ length blocks.old.items }
+    requires room { used_by (block_at blocks.old.items at) + (5 + length name.now) < 2 ^ 32 }
+    requires new { length blocks.old.items ≤ block_of name.now blocks.old.items }
+    requires indexed { Indexes blocks.old.items index.old }
+    ensures ok { OnOk result (blocks.new.items ≡ blocks_with blocks.old.items at (record { ino = ino; name = name.now })) }
+    ensures err { OnErr result (blocks.new.items ≡ blocks.old.items) }
+    ensures indexed { Indexes blocks.new.items index.new }
+{
+    let block = at as u32;
+    index.insert(name, Spot { block, ino })?;
+    match add_at(blocks, at, name, ino) {
+        Ok(()) => Ok(()),
+        Err(error) => {
+            index.remove(name);
+            Err(error)
+        }
+    }
 }
 
 // Adds an entry to block `at`, or to a new last one.

@@ -4,6 +4,7 @@
 mod block;
 mod dir_blocks;
 mod laws;
+mod name_index;
 mod refusal;
 
 pub use dir_blocks::DirBlocks;

@@ -1,6 +1,9 @@
 //! What the calls answer on small directories.
+ghost use Rattle.std.specs.Prelude.{◌≡◌, ◌≤◌, length, IfOk};
+
 use crate::dir_blocks::DirBlocks;
 use crate::refusal::DirRefusal;
+use std::alloc::{AllocError, Global};
 use std::test::Fail;
 use vx_base::{DirEntry, DirValue, Geom, Ino, Name};
 
@@ -89,4 +92,66 @@ fn no_further_block(rt: HostRuntime) -> Result<(), Fail> {
     assert!(rt; matches!(refused, Err(DirRefusal::TooBig { end: 2048 })));
     assert_eq!(rt; directory.entries(), 3);
     Ok(())
+}
+
+#[test]
+fn found_as_by_walking(rt: HostRuntime) -> Result<(), Fail> {
+    let mut directory = DirBlocks::new(rt.alloc());
+    for len in 1..60 {
+        let name = letters(rt.alloc(), len)?;
+        assert!(rt; directory.add(&name, Ino::new(len as u32)).is_ok());
+    }
+    assert_eq!(rt; directory.blocks(), 3);
+    assert!(rt; finds_as_by_walking(rt.alloc(), &directory)?);
+    // All but the first ten go, and then thirty of them come back.
+    for len in 11..60 {
+        let name = letters(rt.alloc(), len)?;
+        assert!(rt; directory.remove(&name).is_ok());
+    }
+    assert!(rt; finds_as_by_walking(rt.alloc(), &directory)?);
+    for len in 30..60 {
+        let name = letters(rt.alloc(), len)?;
+        assert!(rt; directory.add(&name, Ino::new(len as u32 + 100)).is_ok());
+    }
+    assert!(rt; finds_as_by_walking(rt.alloc(), &directory)?);
+    assert!(rt; directory.find(&letters(rt.alloc(), 10)?) == Some(Ino::new(10)));
+    assert!(rt; directory.find(&letters(rt.alloc(), 11)?).is_none());
+    assert!(rt; directory.find(&letters(rt.alloc(), 59)?) == Some(Ino::new(159)));
+    let copy = directory.copy()?;
+    assert!(rt; finds_as_by_walking(rt.alloc(), &copy)?);
+    assert!(rt; directory.tighten().is_ok());
+    assert!(rt; finds_as_by_walking(rt.alloc(), &directory)?);
+    Ok(())
+}
+
+// Whether each name of at most 63 letters is found as by walking.
+fn finds_as_by_walking(alloc: Global, directory: &DirBlocks) -> Result<bool, AllocError> {
+    for len in 0..64 {
+        let name = letters(alloc, len)?;
+        if directory.find(&name) != by_walking(directory, &name) {
+            return Ok(false);
+        }
+    }
+    Ok(true)
+}
+
+// What the name means, by a look at every entry of every block.
+fn by_walking(directory: &DirBlocks, name: &Name) -> Option<Ino> {
+    for i in 0..directory.blocks() {
+        for entry in directory.block(i) {
+            if entry.name == *name {
+                return Some(entry.ino);
+            }
+        }
+    }
+    None
+}
+
+// A name of so many letters, which begins each longer one.
+fn letters(alloc: Global, len: usize) -> Result<Name, AllocError>
+    requires { len ≤ 64 }
+    ensures { IfOk result (λ name. length name ≡ len) }
+{
+    let all = [b'a'; 64];
+    Name::from_slice(alloc, &all[..len])
 }
