@@ -3,3 +3,4 @@ pub mod Refusals
 pub mod Stopped
 pub mod ReplayLaws
 pub mod BadImages
+pub mod Replayed

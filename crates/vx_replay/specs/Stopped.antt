@@ -1,5 +1,5 @@
 -- A stopped image as it is read, and the tree that it replays as.
-use Rattle.std.specs.Prelude.{◌≡◌, ◌+◌, ◌*◌, ◌<◌, ◌≤◌, ◌^◌, ℕ, false, IsTrue, List, [], ◌∷◌, length, None, All}
+use Rattle.std.specs.Prelude.{◌≡◌, ◌+◌, ◌*◌, ◌<◌, ◌≤◌, ◌^◌, ℕ, false, IsTrue, List, [], ◌∷◌, length, None, All, Ok}
 use Rattle.vx_dev.specs.Tape.{State, Tape, MayHold, now}
 use Rattle.vx_layout.specs.declared.superblock.Super.{Super}
 use Rattle.vx_layout.specs.Places.{sectors_of}
@@ -12,6 +12,7 @@ use Rattle.vx_log.specs.Crashes.{Stands}
 use Rattle.vx_model.specs.Reads.{ImageReadsAs}
 use Rattle.vx_model.specs.Replays.{ReplaysAs}
 use Rattle.vx_model.specs.Tree.{Tree}
+use Rattle.vx_replay.specs.BadImages.{first_super}
 use Rattle.vx_replay.specs.LogReads.{Shows, StandThere, AreRecords, image_count}
 use Rattle.vx_replay.specs.declared.load.Stopped.{Stopped}
 
@@ -32,6 +33,7 @@ pub record IsReadFrom (size : ℕ) (image : ℕ → List ℕ) (s : Stopped) : Ty
   pub first : Super
   pub is_first : IsSuper first
   pub first_is : image 0 ≡ super_bytes first
+  pub checked : first_super size image ≡ Ok first
   pub ends : Ends
   pub is_ends : IsEnds (2 * first.log_blocks) ends
   pub head_is : image 2 ≡ ends_bytes ends

@@ -4,8 +4,8 @@
 mod load;
 mod read;
 mod refusal;
+mod top;
 mod writing;
 
-pub use load::Stopped;
 pub use refusal::ReplayRefusal;
-pub use writing::carry;
+pub use top::{Replayed, replay};

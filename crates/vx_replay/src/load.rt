@@ -6,7 +6,7 @@ ghost use Rattle.vx_layout.specs.Places.{sectors_of};
 ghost use Rattle.vx_layout.specs.Supers.{IsSuper, super_bytes, volume_of};
 ghost use Rattle.vx_log.specs.Ends.{IsEnds, ends_bytes};
 ghost use Rattle.vx_home.specs.Homes.{noted_at};
-ghost use Rattle.vx_replay.specs.BadImages.{bad, with_room, checked_super, checked_again, IsBadSuper, IsBadLog, WhyBadLog};
+ghost use Rattle.vx_replay.specs.BadImages.{bad, with_room, checked_super, checked_again, first_super, IsBadSuper, IsBadLog, WhyBadLog};
 ghost use Rattle.vx_replay.specs.LogReads.{Shows, IsRead, StandThere, AreRecords, image_count, starts_at};
 ghost use Rattle.vx_replay.specs.Refusals.{IsReadRefusal, IsLogRefusal, IsSuperRefusal};
 ghost use Rattle.vx_replay.specs.Stopped.{CanCarry, IsReadFrom, noted_all};
@@ -182,7 +182,7 @@ fn loaded(
     requires room { sectors_of (volume_of first) ≤ size }
     requires ends { IsEnds (2 * first.log_blocks) log.ends }
     requires are { AreRecords (2 * first.log_blocks) size log.ends.tail log.ends.head log.records.items }
-    ensures read { (image : ℕ → List ℕ) → image 0 ≡ first_sector.now → first_sector.now ≡ super_bytes first → image 2 ≡ ends_bytes log.ends
+    ensures read { (image : ℕ → List ℕ) → image 0 ≡ first_sector.now → first_sector.now ≡ super_bytes first → first_super size image ≡ Ok first → image 2 ≡ ends_bytes log.ends
         → StandThere (2 * first.log_blocks) image log.ends.tail (log_sectors log.ends.tail log.records.items) → IfOk result (IsReadFrom size image) }
     ensures sound { IfOk result (CanCarry size) }
     ensures bad { (field : ℕ) → result ≡ Err (ReplayRefusal.BadSuper field) → checked_again size first.log_blocks (overlay_all log.records.items 0 first_sector.now) ≡ bad field }

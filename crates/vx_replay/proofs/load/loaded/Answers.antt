@@ -39,7 +39,7 @@ overflow_sub-result-in-Ok-checked_again c =
     omega (arith, length_counts c.args.log.ends.tail rs, c.requires.are.ends, ap (λ (l : List (List AfterImage)). length l) c.as_slice-records.ensures.value)
 
 pub returns-in-Ok-checked_again-clause-read : goal.returns-in-Ok-checked_again-clause-read
-returns-in-Ok-checked_again-clause-read c = λ image here first head stand.
+returns-in-Ok-checked_again-clause-read c = λ image here first checked head stand.
     let rs : List (List AfterImage) = c.args.log.records.items in
     let n = 2 * c.args.first.log_blocks in
     let homes : c.in-Ok.homes ≡ noted_all [] rs = c.in-Ok.ensures ∙ ap (noted_all []) c.as_slice-records.ensures.value in
@@ -50,6 +50,7 @@ returns-in-Ok-checked_again-clause-read c = λ image here first head stand.
       first = c.args.first;
       is_first = c.requires.is;
       first_is = here ∙ first;
+      checked = checked;
       ends = c.args.log.ends;
       is_ends = c.requires.ends;
       head_is = head;

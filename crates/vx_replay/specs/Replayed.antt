@@ -1,0 +1,31 @@
+-- What a replay answers.
+use Rattle.std.specs.Prelude.{◌≡◌, ◌≤◌, ℕ, List, length, Result, Ok, Err}
+use Rattle.vx_base.specs.Faults.{Rose}
+use Rattle.vx_dev.specs.Tape.{State}
+use Rattle.vx_layout.specs.LogForms.{AfterImage}
+use Rattle.vx_layout.specs.declared.superblock.Super.{Super}
+use Rattle.vx_replay.specs.BadImages.{HasLog, first_super}
+use Rattle.vx_replay.specs.LogReads.{IsRead, image_count}
+use Rattle.vx_replay.specs.declared.refusal.ReplayRefusal.{ReplayRefusal}
+use Rattle.vx_replay.specs.declared.refusal.ReplayRefusal.TheVariants as no
+use Rattle.vx_replay.specs.declared.top.Replayed.{Replayed}
+
+-- so many records and after-images stand in the image's log
+pub record IsCounted (size : ℕ) (image : ℕ → List ℕ) (r : Replayed) : Type 0 where
+  pub first : Super
+  pub first_is : first_super size image ≡ Ok first
+  pub records : List (List AfterImage)
+  pub log : HasLog size image first records
+  pub records_are : r.records ≡ length records
+  pub sectors_are : r.sectors ≡ image_count records
+
+-- a fault is answered only where its count rose, and but for a write fault nothing was written
+abbrev pub Cause : State → State → ReplayRefusal → Type 0
+Cause old new no.WriteFault = Rose old.write_faults new.write_faults
+Cause old new no.ReadFault = Rose old.read_faults new.read_faults × IsRead old new
+Cause old new _ = IsRead old new
+
+-- a replay that is done met no write fault
+abbrev pub IsReplayRefusal : {T : Type 0} → State → State → Result T ReplayRefusal → Type 0
+IsReplayRefusal old new (Ok x) = new.write_faults ≡ old.write_faults
+IsReplayRefusal old new (Err why) = Cause old new why
