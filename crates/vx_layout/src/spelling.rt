@@ -1,15 +1,16 @@
 //! What is spelled alike is the same.
-ghost use Rattle.std.specs.Prelude.{◌≡◌, ◌<◌, ◌≤◌, ◌^◌, ℕ, List, length};
+ghost use Rattle.std.specs.Prelude.{◌≡◌, ◌<◌, ◌≤◌, ◌^◌, ℕ, List, length, Ok};
 ghost use Rattle.std.specs.Int.{w32, w64};
 ghost use Rattle.std.specs.List.{AllByRecursion};
 ghost use Rattle.vx_layout.specs.LogForms.{AfterImage, IsRecord, head_sector, descriptor, numbers_at, log_sectors};
 ghost use Rattle.vx_layout.specs.Fields.{number_at};
-ghost use Rattle.vx_layout.specs.Supers.{IsSuper, super_bytes};
+ghost use Rattle.vx_layout.specs.Supers.{IsSuper, super_at, super_bytes};
 ghost use Rattle.vx_layout.specs.declared.superblock.Super.{Super};
 
 /// A superblock has one spelling, and is the only one that has it.
 pub fn super_spelling()
     ensures unique { (v w : Super) → IsSuper v → IsSuper w → super_bytes v ≡ super_bytes w → v ≡ w }
+    ensures again { (v : Super) → IsSuper v → super_at (super_bytes v) ≡ Ok v }
 {}
 
 /// A head sector says where the log begins and ends, and what stands there says its records.
