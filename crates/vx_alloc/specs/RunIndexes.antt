@@ -1,0 +1,72 @@
+-- The maximal runs of a set of blocks, which are numbered from the start of unit 0.
+use Rattle.std.specs.Prelude.{◌≡◌, ℕ, ◌+◌, ◌-◌, ◌*◌, ◌<◌, ◌≤◌, Bool, true, false, ◌&&◌, nat_le, nat_lt, List, length, slice_index_or}
+use Rattle.std.specs.List.{All, list_any, sum_by}
+use Rattle.std.specs.List.Sorted.{IsNonDecreasingBy}
+use Rattle.vx_alloc.specs.declared.run_index.Run.{Run}
+
+-- the runs in the order of their starts, and how many blocks there may be
+pub record RunIndexView : Type 0 where
+  pub runs : List Run
+  pub room : ℕ
+
+-- whether a number is one of the n from `start` on
+abbrev pub is_within : ℕ → ℕ → ℕ → Bool
+is_within start n i = nat_le start i && nat_lt i (start + n)
+
+abbrev pub in_run : ℕ → Run → Bool
+in_run i run = is_within run.start run.len i
+
+-- whether one of the runs has the block
+abbrev pub covers : List Run → ℕ → Bool
+covers runs i = list_any (in_run i) runs
+
+-- the longer run has the higher rank, and of two of one length the lower one
+abbrev pub rank : Run → ℕ
+rank run = run.len * 4294967296 + (4294967295 - run.start)
+
+-- in the order of their starts, with at least one block between two
+abbrev pub AreApart : List Run → Type 0
+AreApart runs = (j k : ℕ) (d : Run) → j < k → k < length runs → (slice_index_or runs j d).start + (slice_index_or runs j d).len < (slice_index_or runs k d).start
+
+-- no run is empty, and all end by `room`
+pub record IsInside (room : ℕ) (run : Run) : Type 0 where
+  pub some : 0 < run.len
+  pub end : run.start + run.len ≤ room
+
+abbrev pub AreInside : ℕ → List Run → Type 0
+AreInside room runs = All (IsInside room) runs
+
+-- every run starts below 2 ^ 32
+abbrev pub AreLow : List Run → Type 0
+AreLow runs = All (λ run. run.start < 4294967296) runs
+
+-- p of the runs, which are in the order of their starts, start before a block
+pub record IsPlace (runs : List Run) (start p : ℕ) : Type 0 where
+  pub bound : p ≤ length runs
+  pub before : (k : ℕ) (d : Run) → k < p → (slice_index_or runs k d).start < start
+  pub after : (k : ℕ) (d : Run) → p ≤ k → k < length runs → start ≤ (slice_index_or runs k d).start
+
+-- p of them start before a block or at it
+pub record IsEndPlace (runs : List Run) (block p : ℕ) : Type 0 where
+  pub bound : p ≤ length runs
+  pub before : (k : ℕ) (d : Run) → k < p → (slice_index_or runs k d).start ≤ block
+  pub after : (k : ℕ) (d : Run) → p ≤ k → k < length runs → block < (slice_index_or runs k d).start
+
+-- the same runs, each as often, in any order
+abbrev pub AreSame : List Run → List Run → Type 0
+AreSame runs others = (f : Run → ℕ) → sum_by f runs ≡ sum_by f others
+
+-- no block of the run, nor the one before or after it, is in one of the runs
+abbrev pub IsClear : Run → List Run → Type 0
+IsClear run runs = (i : ℕ) → run.start ≤ i + 1 → i ≤ run.start + run.len → covers runs i ≡ false
+
+-- what the two lists of runs keep
+pub record IsRunIndex (room : ℕ) (by_start by_length : List Run) (start_room length_room : ℕ) : Type 0 where
+  pub most : room ≤ 4096 * 64
+  pub apart : AreApart by_start
+  pub inside : AreInside room by_start
+  pub ranked : IsNonDecreasingBy rank by_length
+  pub same : AreSame by_start by_length
+  pub as_many : length by_length ≡ length by_start
+  pub start_rooms : room ≤ 2 * start_room
+  pub length_rooms : room ≤ 2 * length_room
