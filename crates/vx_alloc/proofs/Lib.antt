@@ -1,4 +1,6 @@
 pub mod Bits
+pub mod Fits
+pub mod Joins
 pub mod Placing
 pub mod Releases
 pub mod RunLists

@@ -1,7 +1,8 @@
 -- The maximal runs of a set of blocks, which are numbered from the start of unit 0.
-use Rattle.std.specs.Prelude.{◌≡◌, ℕ, ◌+◌, ◌-◌, ◌*◌, ◌<◌, ◌≤◌, Bool, true, false, ◌&&◌, nat_le, nat_lt, List, length, slice_index_or}
-use Rattle.std.specs.List.{All, list_any, sum_by}
+use Rattle.std.specs.Prelude.{◌≡◌, ℕ, ◌+◌, ◌-◌, ◌*◌, ◌%◌, ◌<◌, ◌≤◌, Bool, true, false, ◌&&◌, ◌||◌, nat_le, nat_lt, List, length, slice_index_or}
+use Rattle.std.specs.List.{All, Contains, list_any, sum_by}
 use Rattle.std.specs.List.Sorted.{IsNonDecreasingBy}
+use Rattle.vx_alloc.specs.FreeMaps.{is_multiple}
 use Rattle.vx_alloc.specs.declared.run_index.Run.{Run}
 
 -- the runs in the order of their starts, and how many blocks there may be
@@ -59,6 +60,81 @@ AreSame runs others = (f : Run → ℕ) → sum_by f runs ≡ sum_by f others
 -- no block of the run, nor the one before or after it, is in one of the runs
 abbrev pub IsClear : Run → List Run → Type 0
 IsClear run runs = (i : ℕ) → run.start ≤ i + 1 → i ≤ run.start + run.len → covers runs i ≡ false
+
+-- no block of the run is in one of the runs
+abbrev pub IsFree : Run → List Run → Type 0
+IsFree run runs = (i : ℕ) → in_run i run ≡ true → covers runs i ≡ false
+
+-- `joined` is a run with the run that ended where it began, if one did, which is no longer among the others
+pub record IsJoinedBefore (old new : List Run) (run joined : Run) : Type 0 where
+  pub keeps : (i : ℕ) → in_run i joined || covers new i ≡ in_run i run || covers old i
+  pub free : IsFree joined new
+  pub before : (i : ℕ) → i + 1 ≡ joined.start → covers new i ≡ false
+  pub end : joined.start + joined.len ≡ run.start + run.len
+  pub some : 0 < joined.len
+
+-- `joined` is a run with the run that began where it ended, if one did, and touches no other
+pub record IsJoinedAfter (room : ℕ) (old new : List Run) (run joined : Run) : Type 0 where
+  pub keeps : (i : ℕ) → in_run i joined || covers new i ≡ in_run i run || covers old i
+  pub clear : IsClear joined new
+  pub end : joined.start + joined.len ≤ room
+  pub some : 0 < joined.len
+
+-- the run is the longest of those that start below a limit, and of the longest the lowest
+pub record IsLongestRun (runs : List Run) (limit : ℕ) (run : Run) : Type 0 where
+  pub has : Contains runs run
+  pub below : run.start < limit
+  pub most : (k : ℕ) (d : Run) → k < length runs → (slice_index_or runs k d).start < limit → rank (slice_index_or runs k d) ≤ rank run
+
+abbrev pub HasNoneBelow : List Run → ℕ → Type 0
+HasNoneBelow runs limit = (k : ℕ) (d : Run) → k < length runs → limit ≤ (slice_index_or runs k d).start
+
+-- the last run of a list that starts below a limit
+pub record IsLastBelow (runs : List Run) (limit : ℕ) (run : Run) : Type 0 where
+  pub at : ℕ
+  pub bound : at < length runs
+  pub is : run ≡ slice_index_or runs at run
+  pub below : run.start < limit
+  pub later : (k : ℕ) (d : Run) → at < k → k < length runs → limit ≤ (slice_index_or runs k d).start
+
+-- all blocks are in one unit, and none is its first
+pub record IsInUnit (run : Run) : Type 0 where
+  pub past : 0 < run.start % 4096
+  pub end : (run.start % 4096) + run.len ≤ 4096
+
+abbrev pub AreInUnits : List Run → Type 0
+AreInUnits runs = All IsInUnit runs
+
+-- a block stands a multiple of `align` from the start of its unit
+abbrev pub IsAligned : ℕ → ℕ → Type 0
+IsAligned align i = is_multiple (i % 4096) align ≡ true
+
+-- the lowest place of n blocks in a run that is aligned
+pub record IsLowestIn (run : Run) (n align start : ℕ) : Type 0 where
+  pub low : run.start ≤ start
+  pub end : start + n ≤ run.start + run.len
+  pub aligned : IsAligned align start
+  pub lowest : (c : ℕ) → run.start ≤ c → c < start → IsAligned align c → ⊥
+
+abbrev pub HasNoneIn : Run → ℕ → ℕ → Type 0
+HasNoneIn run n align = (c : ℕ) → run.start ≤ c → c + n ≤ run.start + run.len → IsAligned align c → ⊥
+
+-- the n blocks from c on are in one of the runs that start below a limit
+pub record IsFit (runs : List Run) (limit n c : ℕ) : Type 0 where
+  pub run : Run
+  pub has : Contains runs run
+  pub low : run.start ≤ c
+  pub end : c + n ≤ run.start + run.len
+  pub below : run.start < limit
+
+-- the lowest such place that is aligned
+pub record IsFirstFit (runs : List Run) (limit n align c : ℕ) : Type 0 where
+  pub fit : IsFit runs limit n c
+  pub aligned : IsAligned align c
+  pub lowest : (b : ℕ) → b < c → IsAligned align b → IsFit runs limit n b → ⊥
+
+abbrev pub HasNoFit : List Run → ℕ → ℕ → ℕ → Type 0
+HasNoFit runs limit n align = (c : ℕ) → IsAligned align c → IsFit runs limit n c → ⊥
 
 -- what the two lists of runs keep
 pub record IsRunIndex (room : ℕ) (by_start by_length : List Run) (start_room length_room : ℕ) : Type 0 where

@@ -1,9 +1,9 @@
 //! The maximal runs of a set of blocks, in the order of their starts and in the order of their lengths.
-ghost use Rattle.std.specs.Prelude.{◌≡◌, ◌+◌, ◌-◌, ◌*◌, ◌<◌, ◌≤◌, ℕ, Bool, true, false, ◌&&◌, ◌||◌, not, IfSome, IfNone, OnOk, OnErr, max, Some, None, [], ◌∷◌, vec_len, vec_capacity, length, slice_index_or};
+ghost use Rattle.std.specs.Prelude.{◌≡◌, ◌+◌, ◌-◌, ◌*◌, ◌<◌, ◌≤◌, ℕ, Bool, true, false, ◌&&◌, ◌||◌, not, nat_lt, ◌%◌, ◌≢◌, IfSome, IfNone, OnOk, OnErr, max, Some, None, [], ◌∷◌, vec_len, vec_capacity, length, slice_index_or};
 ghost use Rattle.std.specs.List.{Contains, remove};
 ghost use Rattle.std.specs.List.Sorted.{IsNonDecreasingBy, IsPermutation};
 ghost use Rattle.vx_alloc.specs.declared.run_index.Run.{Run};
-ghost use Rattle.vx_alloc.specs.RunIndexes.{RunIndexView, is_within, in_run, covers, rank, AreApart, AreInside, IsClear, IsPlace, IsEndPlace, AreLow};
+ghost use Rattle.vx_alloc.specs.RunIndexes.{RunIndexView, is_within, in_run, covers, rank, AreApart, AreInside, IsClear, IsPlace, IsEndPlace, AreLow, IsFree, IsJoinedBefore, IsJoinedAfter, IsLongestRun, HasNoneBelow, IsLastBelow, IsInUnit, AreInUnits, IsLowestIn, HasNoneIn, IsFirstFit, HasNoFit};
 
 use std::alloc::{AllocError, Global};
 use std::marker::Model;
@@ -75,11 +75,130 @@ impl RunIndex {
         is_covered(self.by_start.as_slice(), block)
     }
 
-    /// How many runs there are.
-    fn count(&self) -> usize
-        ensures { result ≡ length self.now.runs }
+    /// Adds free blocks to the set.
+    pub fn add(&mut self, start: u32, len: u32)
+        requires some { 0 < len }
+        requires end { start + len ≤ self.old.room }
+        requires free { (i : ℕ) → is_within start len i ≡ true → covers self.old.runs i ≡ false }
+        ensures covers { (i : ℕ) → covers self.new.runs i ≡ (is_within start len i || covers self.old.runs i) }
+        ensures room { self.new.room ≡ self.old.room }
     {
-        self.by_start.len()
+        let run = self.joined_before(Run { start, len });
+        let run = self.joined_after(run);
+        self.insert(run);
+    }
+
+    /// Takes blocks out of the set.
+    pub fn take(&mut self, start: u32, len: u32)
+        requires some { 0 < len }
+        requires covered { (i : ℕ) → is_within start len i ≡ true → covers self.old.runs i ≡ true }
+        ensures covers { (i : ℕ) → covers self.old.runs i ≡ (is_within start len i || covers self.new.runs i) }
+        ensures free { (i : ℕ) → is_within start len i ≡ true → covers self.new.runs i ≡ false }
+        ensures room { self.new.room ≡ self.old.room }
+    {
+        let run = self.remove_holder(start);
+        let end = start + len;
+        self.put_back(run.start, start - run.start);
+        self.put_back(end, run.start + run.len - end);
+    }
+
+    /// Leaves only the blocks below a block that is not in the set.
+    pub fn truncate(&mut self, end: u32)
+        requires { covers self.old.runs end ≡ false }
+        ensures covers { (i : ℕ) → covers self.new.runs i ≡ (nat_lt i end && covers self.old.runs i) }
+        ensures room { self.new.room ≡ self.old.room }
+    {
+        let keep = starts_before(self.by_start.as_slice(), end);
+        let count = self.by_start.len();
+        for gone in 0..count - keep {
+            self.remove(count - 1 - gone);
+        }
+    }
+
+    /// The longest run that starts below a limit, of several the lowest.
+    pub fn longest(&self, limit: u32) -> Option<Run>
+        ensures found { IfSome result (λ run. IsLongestRun self.now.runs limit run) }
+        ensures none { IfNone result (HasNoneBelow self.now.runs limit) }
+    {
+        last_below(self.by_length.as_slice(), limit)
+    }
+
+    /// The lowest place of n blocks in a run that starts below a limit, a multiple of `align` from the
+    /// start of its unit.
+    pub fn first_fit(&self, limit: u32, n: u32, align: u32) -> Option<u32>
+        requires some { 0 < n }
+        requires units { AreInUnits self.now.runs }
+        ensures found { IfSome result (λ start. IsFirstFit self.now.runs limit n align start) }
+        ensures none { IfNone result (HasNoFit self.now.runs limit n align) }
+    {
+        let _room = self.room;
+        first_fit(self.by_start.as_slice(), limit, n, align)
+    }
+
+    /// Takes out the run that ends where this one starts, and answers both as one.
+    fn joined_before(&mut self, run: Run) -> Run
+        requires some { 0 < run.len }
+        requires end { run.start + run.len ≤ self.old.room }
+        requires free { IsFree run self.old.runs }
+        ensures joined { IsJoinedBefore self.old.runs self.new.runs run result }
+        ensures room { self.new.room ≡ self.old.room }
+    {
+        if run.start == 0 || !self.covers(run.start - 1) {
+            return run;
+        }
+        let before = self.remove_holder(run.start - 1);
+        Run {
+            start: before.start,
+            len: before.len + run.len,
+        }
+    }
+
+    /// Takes out the run that starts where this one ends, and answers both as one.
+    fn joined_after(&mut self, run: Run) -> Run
+        requires some { 0 < run.len }
+        requires end { run.start + run.len ≤ self.old.room }
+        requires free { IsFree run self.old.runs }
+        requires before { (i : ℕ) → i + 1 ≡ run.start → covers self.old.runs i ≡ false }
+        ensures joined { IsJoinedAfter self.old.room self.old.runs self.new.runs run result }
+        ensures room { self.new.room ≡ self.old.room }
+    {
+        let _room = self.room;
+        let end = run.start + run.len;
+        if !self.covers(end) {
+            return run;
+        }
+        let after = self.remove_holder(end);
+        Run {
+            start: run.start,
+            len: run.len + after.len,
+        }
+    }
+
+    /// Puts in a run that meets none, unless it has no block.
+    fn put_back(&mut self, start: u32, len: u32)
+        requires end { start + len ≤ self.old.room }
+        requires clear { IsClear (record { start = start; len = len }) self.old.runs }
+        ensures covers { (i : ℕ) → covers self.new.runs i ≡ (is_within start len i || covers self.old.runs i) }
+        ensures room { self.new.room ≡ self.old.room }
+    {
+        if len > 0 {
+            self.insert(Run { start, len });
+        }
+    }
+
+    /// Takes out the run that has a block.
+    fn remove_holder(&mut self, block: u32) -> Run
+        requires { covers self.old.runs block ≡ true }
+        ensures has { in_run block result ≡ true }
+        ensures some { 0 < result.len }
+        ensures end { result.start + result.len ≤ self.old.room }
+        ensures most { self.old.room ≤ 4096 * 64 }
+        ensures covers { (i : ℕ) → covers self.old.runs i ≡ (in_run i result || covers self.new.runs i) }
+        ensures clear { IsClear result self.new.runs }
+        ensures room { self.new.room ≡ self.old.room }
+    {
+        let at = holder(self.by_start.as_slice(), block);
+        self.remove(at)
     }
 
     /// Puts in a run that meets none.
@@ -101,6 +220,7 @@ impl RunIndex {
         ensures rest { self.new.runs ≡ remove self.old.runs at }
         ensures some { 0 < result.len }
         ensures end { result.start + result.len ≤ self.old.room }
+        ensures most { self.old.room ≤ 4096 * 64 }
         ensures covers { (i : ℕ) → covers self.old.runs i ≡ (in_run i result || covers self.new.runs i) }
         ensures clear { IsClear result self.new.runs }
         ensures room { self.new.room ≡ self.old.room }
@@ -222,4 +342,68 @@ fn remove_by_length(runs: &mut Vec<Run>, run: Run)
 {
     let at = ranks_before(runs.as_slice(), rank(&run));
     runs.remove(at);
+}
+
+/// The last of the runs that starts below a limit.
+fn last_below(runs: &[Run], limit: u32) -> Option<Run>
+    ensures found { IfSome result (λ run. IsLastBelow runs.now limit run) }
+    ensures none { IfNone result (HasNoneBelow runs.now limit) }
+{
+    for i in 0..runs.len() {
+        let run = runs[runs.len() - 1 - i];
+        if run.start < limit {
+            return Some(run);
+        }
+    }
+    None
+}
+
+/// The lowest aligned place of n blocks in the runs that start below a limit.
+fn first_fit(runs: &[Run], limit: u32, n: u32, align: u32) -> Option<u32>
+    requires some { 0 < n }
+    requires apart { AreApart runs.now }
+    requires inside { AreInside (4096 * 64) runs.now }
+    requires units { AreInUnits runs.now }
+    ensures found { IfSome result (λ start. IsFirstFit runs.now limit n align start) }
+    ensures none { IfNone result (HasNoFit runs.now limit n align) }
+{
+    for k in 0..runs.len() {
+        let run = runs[k];
+        if run.start < limit {
+            match fit(&run, n, align) {
+                Some(start) => return Some(start),
+                None => {}
+            }
+        }
+    }
+    None
+}
+
+/// The lowest aligned place of n blocks in a run.
+fn fit(run: &Run, n: u32, align: u32) -> Option<u32>
+    requires some { 0 < n }
+    requires unit { IsInUnit run.now }
+    requires end { run.now.start + run.now.len ≤ 4096 * 64 }
+    ensures found { IfSome result (λ start. IsLowestIn run.now n align start) }
+    ensures none { IfNone result (HasNoneIn run.now n align) }
+{
+    if align == 0 {
+        return None;
+    }
+    let skip = skip(run.start % 4096, align);
+    if skip < run.len && n <= run.len - skip {
+        Some(run.start + skip)
+    } else {
+        None
+    }
+}
+
+/// How far the next multiple of `align` is.
+fn skip(place: u32, align: u32) -> u32
+    requires some { 0 < align }
+    ensures multiple { (place + result) % align ≡ 0 }
+    ensures next { (d : ℕ) → d < result → (place + d) % align ≢ 0 }
+{
+    let rest = place % align;
+    if rest == 0 { 0 } else { align - rest }
 }
