@@ -1,13 +1,12 @@
 -- Where blocks fit into runs, and which run is the longest.
-use Rattle.std.proofs.Common.{◌≡◌, ◌≢◌, ℕ, zero, suc, ◌+◌, ◌-◌, ◌*◌, ◌%◌, ◌<◌, ◌≤◌, Bool, true, false, cond, eqb, ltb, ◌&&◌, List, length, get_or, take, drop, ◌++◌, inl, inr, refl, sym, ◌∙◌, ap, subst, arith}
+use Rattle.std.proofs.Common.{◌≡◌, ◌≢◌, ℕ, ◌+◌, ◌-◌, ◌%◌, ◌<◌, ◌≤◌, true, false, eqb, ltb, ◌&&◌, List, length, get_or, take, inl, inr, sym, ◌∙◌, ap, subst, arith}
 use Rattle.std.proofs.lemmas.Bool.{cases_lt, cases_order, both_ways, and_parts, and_from, eqb-true, eq-eqb, ne_eqb, cond-false, lt-ltb, ltb-true}
-use Rattle.std.proofs.lemmas.List.{get_or_default, get_or-take, length-take-le, take-take, drop_all, append-nil}
+use Rattle.std.proofs.lemmas.List.{get_or_default, get_or-take, length-take-le}
 use Rattle.std.proofs.lemmas.List.Elements.{Contains-get_or}
-use Rattle.std.specs.List.{Contains, remove}
 use Rattle.std.specs.List.Sorted.{IsNonDecreasingBy}
 use Rattle.vx_alloc.specs.declared.run_index.Run.{Run}
 use Rattle.vx_alloc.specs.FreeMaps.{is_multiple}
-use Rattle.vx_alloc.specs.RunIndexes.{covers, rank, AreApart, IsPlace, AreSame, IsInUnit, IsAligned, IsLowestIn, HasNoneIn, IsFit, IsFirstFit, HasNoFit, IsLongestRun, HasNoneBelow, IsLastBelow}
+use Rattle.vx_alloc.specs.RunIndexes.{covers, rank, AreApart, IsPlace, AreSame, IsInUnit, IsAligned, IsLowestIn, HasNoneIn, IsFirstFit, IsLongestRun, HasNoneBelow, IsLastBelow}
 use Rattle.vx_alloc.proofs.RunLists.{holder, covered}
 use Rattle.vx_alloc.proofs.SameRuns.{same_has, back_has}
 use Rattle.vx_alloc.proofs.Joins.{same_tests}
@@ -88,11 +87,6 @@ first_found runs limit n align i start e apart some within before below found = 
       ];
 }
 
-pub none_fits : (runs : List Run) (limit n align i : ℕ) → length runs ≤ i → NoneFitBefore runs limit n align i → HasNoFit runs limit n align
-none_fits runs limit n align i whole before c aligned fit =
-    let in_list : fit.has.0 < length runs = fit.has.1 in
-    subst (λ (r : Run). r.start < limit → HasNoneIn r n align) fit.has.2 (before fit.has.0 fit.run (omega arith)) fit.below c fit.low fit.end aligned
-
 -- ---- the longest
 
 pub longest_from_last : (runs others : List Run) (limit : ℕ) (run : Run) → AreSame runs others → IsNonDecreasingBy rank others → IsLastBelow others limit run → IsLongestRun runs limit run
@@ -125,11 +119,6 @@ none_below_from runs others limit same none k d here =
 
 -- ---- the first runs alone
 
-pub remove_last : (runs : List Run) (n m : ℕ) → m ≤ length runs → m ≡ suc n → remove (take m runs) n ≡ take n runs
-remove_last runs n m within is =
-    let whole : length (take m runs) ≡ m = length-take-le m runs within in
-    ap (λ (rest : List Run). take n (take m runs) ++ rest) (drop_all (suc n) (take m runs) (omega arith)) ∙ append-nil (take n (take m runs)) ∙ take-take n m runs (omega arith)
-
 pub kept_covers : (runs : List Run) (keep end : ℕ) → IsPlace runs end keep → covers runs end ≡ false → (i : ℕ) → covers (take keep runs) i ≡ ltb i end && covers runs i
 kept_covers runs keep end place edge i =
     let bound : keep ≤ length runs = place.bound in
@@ -137,32 +126,32 @@ kept_covers runs keep end place edge i =
     let e : Run = record { start = 0; len = 0 } in
     same_tests _ _
     (λ is.
-      let found = holder (take keep runs) i is in
-      let k : ℕ = found.at in
-      let here : k < length (take keep runs) = found.held.in_bounds in
-      let same : get_or (take keep runs) k e ≡ get_or runs k e = get_or-take keep runs k e (omega arith) in
-      let low : (get_or (take keep runs) k e).start ≤ i = (found.held.between e).low in
-      let high : i < (get_or (take keep runs) k e).start + (get_or (take keep runs) k e).len = (found.held.between e).high in
-      let starts : (get_or (take keep runs) k e).start ≡ (get_or runs k e).start = ap (λ (r : Run). r.start) same in
-      let lengths : (get_or (take keep runs) k e).len ≡ (get_or runs k e).len = ap (λ (r : Run). r.len) same in
-      let before : (get_or runs k e).start < end = place.before k e (omega arith) in
-      elim (cases_lt i end) [
-        | inl below ↦ and_from _ _ (lt-ltb i end below) (covered runs i k e (omega arith) (omega arith) (omega arith))
-        | inr past ↦ absurd (both_ways _ edge (covered runs end k e (omega arith) (omega arith) (omega arith)))
-      ])
+    let found = holder (take keep runs) i is in
+    let k : ℕ = found.at in
+    let here : k < length (take keep runs) = found.held.in_bounds in
+    let same : get_or (take keep runs) k e ≡ get_or runs k e = get_or-take keep runs k e (omega arith) in
+    let low : (get_or (take keep runs) k e).start ≤ i = (found.held.between e).low in
+    let high : i < (get_or (take keep runs) k e).start + (get_or (take keep runs) k e).len = (found.held.between e).high in
+    let starts : (get_or (take keep runs) k e).start ≡ (get_or runs k e).start = ap (λ (r : Run). r.start) same in
+    let lengths : (get_or (take keep runs) k e).len ≡ (get_or runs k e).len = ap (λ (r : Run). r.len) same in
+    let before : (get_or runs k e).start < end = place.before k e (omega arith) in
+    elim (cases_lt i end) [
+      | inl below ↦ and_from _ _ (lt-ltb i end below) (covered runs i k e (omega arith) (omega arith) (omega arith))
+      | inr past ↦ absurd (both_ways _ edge (covered runs end k e (omega arith) (omega arith) (omega arith)))
+    ])
     (λ is.
-      let parts = and_parts _ _ is in
-      let below : i < end = ltb-true i end parts.0 in
-      let found = holder runs i parts.1 in
-      let k : ℕ = found.at in
-      let low : (get_or runs k e).start ≤ i = (found.held.between e).low in
-      let high : i < (get_or runs k e).start + (get_or runs k e).len = (found.held.between e).high in
-      let in_list : k < length runs = found.held.in_bounds in
-      elim (cases_lt k keep) [
-        | inl kept ↦
-            let same : get_or (take keep runs) k e ≡ get_or runs k e = get_or-take keep runs k e kept in
-            let starts : (get_or (take keep runs) k e).start ≡ (get_or runs k e).start = ap (λ (r : Run). r.start) same in
-            let lengths : (get_or (take keep runs) k e).len ≡ (get_or runs k e).len = ap (λ (r : Run). r.len) same in
-            covered (take keep runs) i k e (omega arith) (omega arith) (omega arith)
-        | inr dropped ↦ let after : end ≤ (get_or runs k e).start = place.after k e dropped in_list in absurd (omega arith)
-      ])
+    let parts = and_parts _ _ is in
+    let below : i < end = ltb-true i end parts.0 in
+    let found = holder runs i parts.1 in
+    let k : ℕ = found.at in
+    let low : (get_or runs k e).start ≤ i = (found.held.between e).low in
+    let high : i < (get_or runs k e).start + (get_or runs k e).len = (found.held.between e).high in
+    let in_list : k < length runs = found.held.in_bounds in
+    elim (cases_lt k keep) [
+      | inl kept ↦
+          let same : get_or (take keep runs) k e ≡ get_or runs k e = get_or-take keep runs k e kept in
+          let starts : (get_or (take keep runs) k e).start ≡ (get_or runs k e).start = ap (λ (r : Run). r.start) same in
+          let lengths : (get_or (take keep runs) k e).len ≡ (get_or runs k e).len = ap (λ (r : Run). r.len) same in
+          covered (take keep runs) i k e (omega arith) (omega arith) (omega arith)
+      | inr dropped ↦ let after : end ≤ (get_or runs k e).start = place.after k e dropped in_list in absurd (omega arith)
+    ])

@@ -1,6 +1,6 @@
--- Runs that are joined to their neighbours, and runs of which blocks are taken.
-use Rattle.std.proofs.Common.{◌≡◌, ℕ, zero, suc, ◌+◌, ◌-◌, ◌*◌, ◌<◌, ◌≤◌, Bool, true, false, ◌&&◌, ◌||◌, List, length, get_or, inl, inr, refl, sym, ◌∙◌, ap, subst, arith}
-use Rattle.std.proofs.lemmas.Bool.{cases_Bool, cases_lt, both_ways, or_parts, or_cases, or_left, or_right, or_from, false_from_ne_true}
+-- Runs that are joined to their neighbours.
+use Rattle.std.proofs.Common.{◌≡◌, ℕ, ◌+◌, ◌-◌, ◌<◌, ◌≤◌, Bool, true, false, ◌||◌, List, inl, inr, refl, sym, ◌∙◌, ap, arith}
+use Rattle.std.proofs.lemmas.Bool.{cases_lt, both_ways, or_parts, or_cases, or_left, or_right, or_from}
 use Rattle.vx_alloc.specs.declared.run_index.Run.{Run}
 use Rattle.vx_alloc.specs.RunIndexes.{is_within, in_run, covers, IsClear, IsFree, IsJoinedBefore, IsJoinedAfter}
 use Rattle.vx_alloc.proofs.RunLists.{IsBetween, within_from, within_parts, outside}
@@ -15,12 +15,12 @@ pub within_joined : (s m n e i : ℕ) → s + m ≡ e → is_within s (m + n) i 
 within_joined s m n e i ends =
     same_tests _ _
     (λ is.
-      let low : s ≤ i = (within_parts s (m + n) i is).low in
-      let high : i < s + (m + n) = (within_parts s (m + n) i is).high in
-      elim (cases_lt i e) [
-        | inl before ↦ or_left _ _ (within_from s m i low (omega arith))
-        | inr after ↦ or_right _ _ (within_from e n i after (omega arith))
-      ])
+    let low : s ≤ i = (within_parts s (m + n) i is).low in
+    let high : i < s + (m + n) = (within_parts s (m + n) i is).high in
+    elim (cases_lt i e) [
+      | inl before ↦ or_left _ _ (within_from s m i low (omega arith))
+      | inr after ↦ or_right _ _ (within_from e n i after (omega arith))
+    ])
     (λ is. elim (or_cases _ _ is) [
       | inl first ↦
           let low : s ≤ i = (within_parts s m i first).low in
@@ -52,9 +52,6 @@ in_clear run runs i clear is =
 pub still_free : (old new taken : Bool) → old ≡ taken || new → old ≡ false → new ≡ false
 still_free old new taken splits none = (or_parts taken new (sym splits ∙ none)).1
 
-pub joined_alone : (old : List Run) (run : Run) → 0 < run.len → IsFree run old → ((i : ℕ) → i + 1 ≡ run.start → covers old i ≡ false) → IsJoinedBefore old old run run
-joined_alone old run some free before = record { keeps = λ i. refl; free = free; before = before; end = refl; some = some }
-
 pub joined_front : (old new : List Run) (before run : Run) (len : ℕ) → 0 < run.start → 0 < run.len → IsFree run old → in_run (run.start - 1) before ≡ true → ((i : ℕ) → covers old i ≡ in_run i before || covers new i) → IsClear before new → len ≡ before.len + run.len
     → IsJoinedBefore old new run (record { start = before.start; len = len })
 joined_front old new before run len start some free has splits clear is =
@@ -78,20 +75,6 @@ joined_front old new before run len start some free has splits clear is =
       end = omega arith;
       some = omega arith;
     }
-
-pub joined_last : (room : ℕ) (old : List Run) (run : Run) → 0 < run.len → run.start + run.len ≤ room → IsFree run old → ((i : ℕ) → i + 1 ≡ run.start → covers old i ≡ false) → covers old (run.start + run.len) ≡ false → IsJoinedAfter room old old run run
-joined_last room old run some end free before after = record {
-  keeps = λ i. refl;
-  clear = λ i low high. elim (cases_lt i run.start) [
-    | inl below ↦ before i (omega arith)
-    | inr from ↦ elim (cases_lt i (run.start + run.len)) [
-      | inl inside ↦ free i (within_from run.start run.len i from inside)
-      | inr past ↦ let same : run.start + run.len ≡ i = omega arith in sym (ap (covers old) same) ∙ after
-    ]
-  ];
-  end = end;
-  some = some;
-}
 
 pub joined_back : (room : ℕ) (old new : List Run) (run after : Run) (end len : ℕ) → 0 < run.len → IsFree run old → ((i : ℕ) → i + 1 ≡ run.start → covers old i ≡ false) → end ≡ run.start + run.len → in_run end after ≡ true → ((i : ℕ) → covers old i ≡ in_run i after || covers new i) → IsClear after new → after.start + after.len ≤ room
     → len ≡ run.len + after.len → IsJoinedAfter room old new run (record { start = run.start; len = len })
@@ -119,83 +102,18 @@ joined_back room old new run after end len some free before ends has splits clea
       some = omega arith;
     }
 
--- the set after a run is added in whole
-pub added_covers : (room : ℕ) (old mid last all : List Run) (run first second : Run) → IsJoinedBefore old mid run first → IsJoinedAfter room mid last first second → ((i : ℕ) → covers all i ≡ in_run i second || covers last i) → (i : ℕ) → covers all i ≡ in_run i run || covers old i
-added_covers room old mid last all run first second joined joined' whole i = whole i ∙ joined'.keeps i ∙ joined.keeps i
-
--- ---- blocks taken out of a run
-
-module _ (old mid : List Run) (run : Run) (start len end : ℕ) (some : 0 < len) (covered : (i : ℕ) → is_within start len i ≡ true → covers old i ≡ true) (has : in_run start run ≡ true) (splits : (i : ℕ) → covers old i ≡ in_run i run || covers mid i) (clear : IsClear run mid) (ends : end ≡ start + len) where
-  -- they end where the run does or before
-  pub taken_within : (run.start ≤ start) × (end ≤ run.start + run.len)
-  taken_within =
-      let low : run.start ≤ start = (within_parts run.start run.len start has).low in
-      let high : start < run.start + run.len = (within_parts run.start run.len start has).high in
-      (low, elim (cases_lt (run.start + run.len) end) [
-        | inl short ↦
-            let past : ℕ = run.start + run.len in
-            let here : covers old past ≡ true = covered past (within_from start len past (omega arith) (omega arith)) in
-            let gone : covers old past ≡ false = splits past ∙ or_from _ _ (outside run.start run.len past (λ l. omega arith)) (clear past (omega arith) (omega arith)) in
-            absurd (both_ways _ gone here)
-        | inr fits ↦ fits
-      ])
-
-  pub front_clear : (n : ℕ) → n ≡ start - run.start → IsClear (record { start = run.start; len = n }) mid
-  front_clear n is i low high = let w = taken_within in let a : run.start ≤ start = w.0 in let b : end ≤ run.start + run.len = w.1 in clear i low (omega arith)
-
-  pub back_clear : (front : List Run) (n m : ℕ) → n ≡ start - run.start → m ≡ run.start + run.len - end → ((i : ℕ) → covers front i ≡ is_within run.start n i || covers mid i) → IsClear (record { start = end; len = m }) front
-  back_clear front n m is rest more i low high =
-      let w = taken_within in
-      let a : run.start ≤ start = w.0 in
-      let b : end ≤ run.start + run.len = w.1 in
-      more i ∙ or_from _ _ (outside run.start n i (λ l. omega arith)) (clear i (omega arith) (omega arith))
-
-  -- what is left
-  module _ (front new : List Run) (n m : ℕ) (is : n ≡ start - run.start) (rest : m ≡ run.start + run.len - end) (more : (i : ℕ) → covers front i ≡ is_within run.start n i || covers mid i) (most : (i : ℕ) → covers new i ≡ is_within end m i || covers front i) where
-    pub taken_free : (i : ℕ) → is_within start len i ≡ true → covers new i ≡ false
-    taken_free i here =
-        let w = taken_within in
-        let a : run.start ≤ start = w.0 in
-        let b : end ≤ run.start + run.len = w.1 in
-        let low : start ≤ i = (within_parts start len i here).low in
-        let high : i < start + len = (within_parts start len i here).high in
-        most i ∙ or_from _ _ (outside end m i (λ l. omega arith)) (more i ∙ or_from _ _ (outside run.start n i (λ l. omega arith)) (clear i (omega arith) (omega arith)))
-
-    pub taken_covers : (i : ℕ) → covers old i ≡ is_within start len i || covers new i
-    taken_covers i =
-        let w = taken_within in
-        let a : run.start ≤ start = w.0 in
-        let b : end ≤ run.start + run.len = w.1 in
-        same_tests _ _
-        (λ there. elim (or_cases _ _ (sym (splits i) ∙ there)) [
-          | inl in_this ↦
-              let low : run.start ≤ i = (within_parts run.start run.len i in_this).low in
-              let high : i < run.start + run.len = (within_parts run.start run.len i in_this).high in
-              elim (cases_lt i start) [
-                | inl before ↦ or_right _ _ (most i ∙ or_right _ _ (more i ∙ or_left _ _ (within_from run.start n i low (omega arith))))
-                | inr from ↦ elim (cases_lt i end) [
-                  | inl inside ↦ or_left _ _ (within_from start len i from (omega arith))
-                  | inr past ↦ or_right _ _ (most i ∙ or_left _ _ (within_from end m i past (omega arith)))
-                ]
-              ]
-          | inr others ↦ or_right _ _ (most i ∙ or_right _ _ (more i ∙ or_right _ _ others))
-        ])
-        (λ here. splits i ∙ elim (or_cases _ _ here) [
-          | inl taken ↦
-              let low : start ≤ i = (within_parts start len i taken).low in
-              let high : i < start + len = (within_parts start len i taken).high in
-              or_left _ _ (within_from run.start run.len i (omega arith) (omega arith))
-          | inr left ↦ elim (or_cases _ _ (sym (most i) ∙ left)) [
-            | inl back ↦
-                let low : end ≤ i = (within_parts end m i back).low in
-                let high : i < end + m = (within_parts end m i back).high in
-                or_left _ _ (within_from run.start run.len i (omega arith) (omega arith))
-            | inr in_front ↦ elim (or_cases _ _ (sym (more i) ∙ in_front)) [
-              | inl front_part ↦
-                  let low : run.start ≤ i = (within_parts run.start n i front_part).low in
-                  let high : i < run.start + n = (within_parts run.start n i front_part).high in
-                  or_left _ _ (within_from run.start run.len i low (omega arith))
-              | inr in_mid ↦ or_right _ _ in_mid
-            ]
-          ]
-        ])
+-- blocks taken from the run that has the first of them: they end where it does or before, and what is left behind them touches no other run
+pub back_clear : (old mid front : List Run) (run : Run) (start len end n m : ℕ) → 0 < len → ((i : ℕ) → is_within start len i ≡ true → covers old i ≡ true) → in_run start run ≡ true → ((i : ℕ) → covers old i ≡ in_run i run || covers mid i) → IsClear run mid → end ≡ start + len → n ≡ start - run.start → m ≡ run.start + run.len - end
+    → ((i : ℕ) → covers front i ≡ is_within run.start n i || covers mid i) → IsClear (record { start = end; len = m }) front
+back_clear old mid front run start len end n m some all has splits clear ends is rest more i low high =
+    let begins : run.start ≤ start = (within_parts run.start run.len start has).low in
+    let within : start < run.start + run.len = (within_parts run.start run.len start has).high in
+    let past : ℕ = run.start + run.len in
+    let fits : end ≤ past = elim (cases_lt past end) [
+      | inl short ↦
+          let here : covers old past ≡ true = all past (within_from start len past (omega arith) (omega arith)) in
+          let gone : covers old past ≡ false = splits past ∙ or_from _ _ (outside run.start run.len past (λ l. omega arith)) (clear past (omega arith) (omega arith)) in
+          absurd (both_ways _ gone here)
+      | inr upto ↦ upto
+    ] in
+    more i ∙ or_from _ _ (outside run.start n i (λ l. omega arith)) (clear i (omega arith) (omega arith))

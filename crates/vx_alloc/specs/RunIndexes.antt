@@ -1,8 +1,8 @@
 -- The maximal runs of a set of blocks, which are numbered from the start of unit 0.
-use Rattle.std.specs.Prelude.{◌≡◌, ℕ, ◌+◌, ◌-◌, ◌*◌, ◌%◌, ◌<◌, ◌≤◌, Bool, true, false, ◌&&◌, ◌||◌, nat_le, nat_lt, List, length, slice_index_or}
-use Rattle.std.specs.List.{All, Contains, list_any, sum_by}
+use Rattle.std.specs.Prelude.{◌≡◌, ℕ, ◌+◌, ◌-◌, ◌*◌, ◌%◌, ◌<◌, ◌≤◌, Bool, true, false, ◌&&◌, ◌||◌, nat_le, nat_lt, min, Option, Some, None, is_some, List, length, slice_index_or}
+use Rattle.std.specs.List.{All, Contains, count_by, list_any, sum_by}
 use Rattle.std.specs.List.Sorted.{IsNonDecreasingBy}
-use Rattle.vx_alloc.specs.FreeMaps.{is_multiple}
+use Rattle.vx_alloc.specs.FreeMaps.{FreeMapView, is_multiple}
 use Rattle.vx_alloc.specs.declared.run_index.Run.{Run}
 
 -- the runs in the order of their starts, and how many blocks there may be
@@ -146,3 +146,31 @@ pub record IsRunIndex (room : ℕ) (by_start by_length : List Run) (start_room l
   pub as_many : length by_length ≡ length by_start
   pub start_rooms : room ≤ 2 * start_room
   pub length_rooms : room ≤ 2 * length_room
+
+-- ---- of a map of free blocks
+
+-- whether the block at a place of its unit holds data
+abbrev pub is_data_place : ℕ → ℕ → Bool
+is_data_place per_unit i = nat_le (4096 - per_unit) (i % 4096)
+
+-- whether it is a data block of one of the units from one to another
+abbrev pub is_unit_data : ℕ → ℕ → ℕ → ℕ → Bool
+is_unit_data per_unit from to i = (nat_le (4096 * from) i && nat_lt i (4096 * to)) && is_data_place per_unit i
+
+-- the first unit that isn't there or is barred
+abbrev pub open_units : ℕ → Option ℕ → ℕ
+open_units units None = units
+open_units units (Some bar) = min bar units
+
+-- the free blocks below this one are not barred
+abbrev pub limit_of : FreeMapView → ℕ
+limit_of view = 4096 * open_units view.units view.bar
+
+-- what the lists of a map keep with its runs and its counts
+pub record IsIndexed (per_unit room : ℕ) (free : List Bool) (pending : List (Option ℕ)) (index : RunIndexView) (free_count pending_count : ℕ) : Type 0 where
+  pub covered : (i : ℕ) → covers index.runs i ≡ slice_index_or free i false
+  pub blocks : index.room ≡ 4096 * room
+  pub placed : (i : ℕ) → slice_index_or free i false ≡ true → is_data_place per_unit i ≡ true
+  pub pending_placed : (i : ℕ) → is_some (slice_index_or pending i None) ≡ true → is_data_place per_unit i ≡ true
+  pub counted : free_count ≡ count_by (λ bit. bit) free
+  pub pending_counted : pending_count ≡ count_by is_some pending

@@ -1,7 +1,8 @@
 //! The maximal runs of a set of blocks, in the order of their starts and in the order of their lengths.
-ghost use Rattle.std.specs.Prelude.{◌≡◌, ◌+◌, ◌-◌, ◌*◌, ◌<◌, ◌≤◌, ℕ, Bool, true, false, ◌&&◌, ◌||◌, not, nat_lt, ◌%◌, ◌≢◌, IfSome, IfNone, OnOk, OnErr, max, Some, None, [], ◌∷◌, vec_len, vec_capacity, length, slice_index_or};
+ghost use Rattle.std.specs.Prelude.{◌≡◌, ◌+◌, ◌*◌, ◌<◌, ◌≤◌, ℕ, true, false, ◌&&◌, ◌||◌, nat_lt, ◌%◌, ◌≢◌, IfSome, IfNone, OnOk, OnErr, max, Some, None, [], ◌∷◌, vec_capacity, length, slice_index_or};
 ghost use Rattle.std.specs.List.{Contains, remove};
 ghost use Rattle.std.specs.List.Sorted.{IsNonDecreasingBy, IsPermutation};
+ghost use Rattle.vx_alloc.specs.FreeMaps.{count_below};
 ghost use Rattle.vx_alloc.specs.declared.run_index.Run.{Run};
 ghost use Rattle.vx_alloc.specs.RunIndexes.{RunIndexView, is_within, in_run, covers, rank, AreApart, AreInside, IsClear, IsPlace, IsEndPlace, AreLow, IsFree, IsJoinedBefore, IsJoinedAfter, IsLongestRun, HasNoneBelow, IsLastBelow, IsInUnit, AreInUnits, IsLowestIn, HasNoneIn, IsFirstFit, HasNoFit};
 
@@ -115,10 +116,21 @@ impl RunIndex {
         }
     }
 
+    /// How many blocks of the set are below one that is not in it.
+    pub fn count_below(&self, limit: u32) -> u32
+        requires { covers self.now.runs limit ≡ false }
+        ensures { result ≡ count_below (covers self.now.runs) limit }
+    {
+        let _room = self.room;
+        count_below(self.by_start.as_slice(), limit)
+    }
+
     /// The longest run that starts below a limit, of several the lowest.
     pub fn longest(&self, limit: u32) -> Option<Run>
         ensures found { IfSome result (λ run. IsLongestRun self.now.runs limit run) }
         ensures none { IfNone result (HasNoneBelow self.now.runs limit) }
+        ensures apart { AreApart self.now.runs }
+        ensures inside { AreInside (4096 * 64) self.now.runs }
     {
         last_below(self.by_length.as_slice(), limit)
     }
@@ -127,9 +139,11 @@ impl RunIndex {
     /// start of its unit.
     pub fn first_fit(&self, limit: u32, n: u32, align: u32) -> Option<u32>
         requires some { 0 < n }
-        requires units { AreInUnits self.now.runs }
+        requires units { (unit : ℕ) → covers self.now.runs (4096 * unit) ≡ false }
         ensures found { IfSome result (λ start. IsFirstFit self.now.runs limit n align start) }
         ensures none { IfNone result (HasNoFit self.now.runs limit n align) }
+        ensures apart { AreApart self.now.runs }
+        ensures inside { AreInside (4096 * 64) self.now.runs }
     {
         let _room = self.room;
         first_fit(self.by_start.as_slice(), limit, n, align)
@@ -356,6 +370,24 @@ fn last_below(runs: &[Run], limit: u32) -> Option<Run>
         }
     }
     None
+}
+
+/// How many blocks the runs have below one that is in none of them.
+fn count_below(runs: &[Run], limit: u32) -> u32
+    requires apart { AreApart runs.now }
+    requires inside { AreInside (4096 * 64) runs.now }
+    requires edge { covers runs.now limit ≡ false }
+    ensures { result ≡ count_below (covers runs.now) limit }
+{
+    let mut count = 0;
+    for k in 0..runs.len() {
+        let run = runs[k];
+        if run.start >= limit {
+            return count;
+        }
+        count += run.len;
+    }
+    count
 }
 
 /// The lowest aligned place of n blocks in the runs that start below a limit.

@@ -1,5 +1,4 @@
-use Rattle.std.proofs.Common.{◌<◌, ap, subst, sym, IfNone, None, arith}
-use Rattle.vx_alloc.specs.RunIndexes.{HasNoneIn}
+use Rattle.std.proofs.Common.{arith}
 use Rattle.vx_alloc.proofs.Fits.{none_fit_more, first_found}
 use Rattle.vx_alloc.proofs.run_index.first_fit.Goals.{then-run-limit+in-None, else-run-limit}
 use Rattle.vx_alloc.proofs.run_index.first_fit.Goals as goal

@@ -7,7 +7,7 @@ any : Run
 any = record { start = 0; len = 0 }
 
 pub overflow_sub-result : goal.overflow_sub-result
-overflow_sub-result c = 
+overflow_sub-result c =
     let at = holder_place c.args.runs.now c.args.block c.starts_upto.result any c.requires.apart c.starts_upto.ensures c.requires.covered in
     omega (arith, at.0)
 

@@ -1,8 +1,6 @@
-use Rattle.std.proofs.Common.{nat_lt, ◌∙◌, sym, rules, arith}
+use Rattle.std.proofs.Common.{nat_lt, rules, arith}
 use Rattle.std.proofs.lemmas.Bool.{ltb-true, ltb-false}
 use Rattle.std.proofs.lemmas.List.Sorted.{IsPartitionPoint-from_clause, IsPartitionedBy-ltb}
-use Rattle.std.specs.List.Sorted.{IsPartitionPoint}
-use Rattle.std.proofs.Common.{◌≡◌, true, false}
 use Rattle.vx_alloc.specs.declared.run_index.Run.{Run}
 use Rattle.vx_alloc.specs.RunIndexes.{rank}
 use Rattle.vx_alloc.proofs.run_index.ranks_before.Goals as goal

@@ -1,6 +1,5 @@
-use Rattle.std.proofs.Common.{ap, ◌∙◌, ◌||◌, sym, subst, ℕ, Bool, List, ◌≡◌, ◌+◌, ◌≤◌, arith}
+use Rattle.std.proofs.Common.{ap, ◌∙◌, ◌||◌, sym, subst, ◌+◌, ◌≤◌}
 use Rattle.std.specs.Vec.{vec_capacity}
-use Rattle.vx_alloc.specs.declared.run_index.Run.{Run}
 use Rattle.vx_alloc.specs.RunIndexes.{RunIndexView, in_run, covers}
 use Rattle.vx_alloc.proofs.RunLists.{more_covers}
 use Rattle.vx_alloc.proofs.SameRuns.{more_room, more_index}

@@ -1,7 +1,6 @@
-use Rattle.std.proofs.Common.{List, Option, Some, None, IfSome, IfNone, subst, sym}
+use Rattle.std.proofs.Common.{ℕ, List, Option, Some, None, IfSome, IfNone, subst}
 use Rattle.std.specs.List.Sorted.{IsNonDecreasingBy}
 use Rattle.vx_alloc.specs.declared.run_index.Run.{Run}
-use Rattle.std.proofs.Common.{ℕ}
 use Rattle.vx_alloc.specs.RunIndexes.{RunIndexView, rank, AreSame, IsLongestRun, HasNoneBelow, IsLastBelow}
 use Rattle.vx_alloc.proofs.Fits.{longest_from_last, none_below_from}
 use Rattle.vx_alloc.proofs.run_index.RunIndex.longest.Goals as goal

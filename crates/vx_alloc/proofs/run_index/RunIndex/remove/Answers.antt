@@ -1,4 +1,4 @@
-use Rattle.std.proofs.Common.{ap, ◌∙◌, ◌||◌, ◌<◌, ◌≡◌, length, get_or, sym, subst, List, ◌∷◌, arith}
+use Rattle.std.proofs.Common.{ap, ◌∙◌, ◌<◌, length, sym, subst, List, ◌∷◌, arith}
 use Rattle.std.specs.List.Sorted.{IsPermutation}
 use Rattle.std.specs.Vec.{vec_capacity}
 use Rattle.std.proofs.lemmas.List.Sorted.{IsPermutation-remove}

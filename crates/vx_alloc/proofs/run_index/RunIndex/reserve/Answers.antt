@@ -1,4 +1,4 @@
-use Rattle.std.proofs.Common.{◌≤◌, ◌*◌, arith}
+use Rattle.std.proofs.Common.{arith}
 use Rattle.std.specs.Vec.{vec_capacity}
 use Rattle.vx_alloc.proofs.SameRuns.{reserved_index}
 use Rattle.vx_alloc.proofs.run_index.RunIndex.reserve.Goals as goal

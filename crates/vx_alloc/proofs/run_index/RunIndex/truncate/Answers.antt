@@ -1,4 +1,4 @@
-use Rattle.std.proofs.Common.{◌≡◌, ◌-◌, ◌∙◌, ℕ, Bool, List, length, take, ltb, ◌&&◌, ap, subst, sym, arith}
+use Rattle.std.proofs.Common.{◌≡◌, ◌-◌, ◌∙◌, ℕ, List, length, take, ap, subst, arith}
 use Rattle.vx_alloc.specs.declared.run_index.Run.{Run}
 use Rattle.vx_alloc.specs.RunIndexes.{RunIndexView, covers, IsPlace}
 use Rattle.vx_alloc.proofs.Fits.{kept_covers}
