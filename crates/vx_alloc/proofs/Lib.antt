@@ -1,5 +1,11 @@
 pub mod Bits
+pub mod Counts
+pub mod Fits
+pub mod Indexes
+pub mod Joins
+pub mod MapRuns
 pub mod Placing
 pub mod Releases
-pub mod Runs
+pub mod RunLists
+pub mod SameRuns
 pub mod Units

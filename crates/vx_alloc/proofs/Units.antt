@@ -1,9 +1,12 @@
 -- Free runs of a map, and runs of places counted from the start of unit 0.
-use Rattle.std.proofs.Common.{◌≡◌, ℕ, ◌+◌, ◌-◌, ◌*◌, ◌%◌, ◌<◌, ◌≤◌, Bool, true, false, leb, Option, inl, inr, sym, ◌∙◌, ap, add_assoc, arith}
-use Rattle.std.proofs.lemmas.Bool.{cases_lt, and_parts, or_left, leb-true, ltb-true}
+use Rattle.std.proofs.Common.{◌≡◌, ℕ, ◌+◌, ◌-◌, ◌*◌, ◌%◌, ◌<◌, ◌≤◌, Bool, true, false, leb, Option, sym, ◌∙◌, ap, add_assoc, arith}
+use Rattle.std.proofs.lemmas.Bool.{and_parts, or_left, leb-true, ltb-true}
 use Rattle.std.proofs.lemmas.List.FromFn.{get_or-map-range_with_len}
-use Rattle.vx_alloc.specs.FreeMaps.{FreeMapView, all_free, IsUnusedFrom, is_free, is_aligned, IsFreeRun, IsLongest, IsLowestAligned, HasNoAligned}
-use Rattle.vx_alloc.proofs.Runs.{Passes, LongestSoFar, SearchSoFar, part_passes, run_grows}
+use Rattle.vx_alloc.specs.FreeMaps.{FreeMapView, all_free, IsUnusedFrom, is_free, is_aligned, IsFreeRun}
+
+-- n numbers from c on pass
+abbrev pub Passes : (ℕ → Bool) → ℕ → ℕ → Type 0
+Passes test c n = (k : ℕ) → k < n → test (c + k) ≡ true
 
 abbrev pub free_at : FreeMapView → ℕ → Bool
 free_at view i = is_free view (view.first + i)
@@ -44,35 +47,6 @@ placed_run view b n some free =
 
 pub free_run : (view : FreeMapView) (i n : ℕ) → Passes (free_at view) i n → IsFreeRun view (view.first + i) n
 free_run view i n passes k h = ap (is_free view) (add_assoc view.first i k) ∙ passes k h
-
-pub longest_found : (view : FreeMapView) (best start i : ℕ) → LongestSoFar (free_at view) best start i → i ≡ 4096 * view.units → IsLongest view best
-longest_found view best start i known whole = record {
-  start = view.first + known.longest.start;
-  free = free_run view known.longest.start best known.longest.passing;
-  most = λ b m free. elim (cases_lt 0 m) [
-    | inl some ↦ let run = placed_run view b m some free in let high : (b - view.first) + m ≤ 4096 * view.units = run.high in known.longest.most (b - view.first) m (omega arith) run.passing
-    | inr none ↦ omega arith
-  ];
-}
-
-pub none_found : (view : FreeMapView) (n align start i : ℕ) → 0 < n → SearchSoFar (free_at view) (aligned_at view align) n start i → i ≡ 4096 * view.units → HasNoAligned view n align
-none_found view n align start i some known whole b aligned free =
-    let run = placed_run view b n some free in
-    let low : view.first ≤ b = run.low in
-    let high : (b - view.first) + n ≤ 4096 * view.units = run.high in
-    let same : b ≡ view.first + (b - view.first) = omega arith in
-    known.none (b - view.first) (omega arith) (sym (ap (is_aligned view align) same) ∙ aligned) run.passing
-
-pub lowest_found : (view : FreeMapView) (n align start i from : ℕ) → 0 < n → SearchSoFar (free_at view) (aligned_at view align) n start i → free_at view i ≡ true → from + n ≡ i + 1 → start ≤ from → aligned_at view align from ≡ true → IsLowestAligned view n align (view.first + from)
-lowest_found view n align start i from some known here last late aligned = record {
-  free = free_run view from n (part_passes (free_at view) start (i + 1) from n (run_grows (free_at view) start i known.run here) late (omega arith));
-  aligned = aligned;
-  lowest = λ b below aligned' free.
-      let run = placed_run view b n some free in
-      let low : view.first ≤ b = run.low in
-      let same : b ≡ view.first + (b - view.first) = omega arith in
-      known.none (b - view.first) (omega arith) (sym (ap (is_aligned view align) same) ∙ aligned') run.passing;
-}
 
 -- in a map whose data blocks are all free, none is in use
 pub none_used : (first per_unit units from : ℕ) (bar : Option ℕ) → IsUnusedFrom (record (all_free first per_unit units) { bar = bar }) from

@@ -1,1 +1,2 @@
 pub mod FreeMaps
+pub mod RunIndexes

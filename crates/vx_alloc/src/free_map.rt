@@ -1,8 +1,10 @@
 //! The map of free blocks, unit by unit.
-ghost use Rattle.std.specs.Prelude.{◌≡◌, ◌+◌, ◌-◌, ◌*◌, ◌/◌, ◌%◌, ◌<◌, ◌≤◌, ◌^◌, ℕ, Bool, true, false, IsTrue, IfOk, IfSome, IfNone, OnOk, OnErr, max, Some, None, is_some, nat_le, ◌++◌, replicate, vec_len, vec_capacity, length};
+ghost use Rattle.std.specs.Prelude.{◌≡◌, ◌+◌, ◌-◌, ◌*◌, ◌/◌, ◌%◌, ◌<◌, ◌≤◌, ◌^◌, ℕ, true, false, IsTrue, IfOk, IfSome, IfNone, OnOk, OnErr, max, Some, None, is_some, nat_le, ◌++◌, replicate, vec_len, vec_capacity, length, ◌||◌, slice_index_or, slice_set};
 ghost use Rattle.std.specs.List.{count_by};
-ghost use Rattle.vx_alloc.specs.FreeMaps.{IsFreeRun, IsLowestRun, HasNoRun, IsAtLongest, IsStart, IsPlaced, can_follow, unit_of, without_run, cleared, is_before, free_with, still_pending, released, IsLongest, IsLowestAligned, HasNoAligned, is_aligned, is_data, is_free, is_at_or_past, is_used, free_blocks, all_free, grown, shrunk, IsUnusedFrom, data_bits, with_bit, with_place};
+ghost use Rattle.vx_alloc.specs.RunIndexes.{covers, is_unit_data, limit_of};
+ghost use Rattle.vx_alloc.specs.FreeMaps.{IsFreeRun, IsLowestRun, HasNoRun, IsAtLongest, IsStart, IsPlaced, can_follow, unit_of, without_run, cleared, is_before, free_with, still_pending, released, IsLongest, IsLowestAligned, HasNoAligned, is_data, is_free, is_at_or_past, is_used, free_blocks, all_free, grown, shrunk, IsUnusedFrom, data_bits, with_bit, with_place};
 
+use crate::run_index::RunIndex;
 use std::alloc::{AllocError, Global};
 use std::marker::Model;
 use vx_base::{Block, Geom};
@@ -23,17 +25,23 @@ pub struct FreeMap {
     free: Vec<bool>,
     pending: Vec<Option<u64>>,
     bar: Option<u32>,
+    // The maximal runs of the free blocks, barred or not.
+    runs: RunIndex,
+    // How many blocks are in the set of free blocks, and how many wait.
+    free_count: u32,
+    pending_count: u32,
 }
 
 impl Model for FreeMap {
     ghost use Rattle.std.specs.Prelude.{length, vec_capacity};
-    ghost use Rattle.vx_alloc.specs.FreeMaps.{IsFreeRun, IsLowestRun, HasNoRun, IsAtLongest, IsStart, IsPlaced, can_follow, unit_of, without_run, cleared, is_before, free_with, still_pending, released, IsLongest, IsLowestAligned, HasNoAligned, is_aligned, FreeMapView, IsSound};
+    ghost use Rattle.vx_alloc.specs.FreeMaps.{FreeMapView, IsSound};
+    ghost use Rattle.vx_alloc.specs.RunIndexes.{IsIndexed};
 
     ghost Value = { FreeMapView };
 
     ghost view = { λ m. record { first = m.first; per_unit = m.per_unit; units = m.units; room = m.room; free = m.free.items; pending = m.pending.items; bar = m.bar } };
 
-    ghost invariant = { λ m. IsSound m.first m.per_unit m.units m.room (length m.free.items) (length m.pending.items) (vec_capacity m.free) (vec_capacity m.pending) };
+    ghost invariant = { λ m. IsSound m.first m.per_unit m.units m.room (length m.free.items) (length m.pending.items) (vec_capacity m.free) (vec_capacity m.pending) × IsIndexed m.per_unit m.room m.free.items m.pending.items m.runs m.free_count m.pending_count };
 }
 
 impl FreeMap {
@@ -63,6 +71,9 @@ impl FreeMap {
             free: Vec::new(alloc),
             pending: Vec::new(alloc),
             bar: None,
+            runs: RunIndex::new(alloc),
+            free_count: 0,
+            pending_count: 0,
         };
         map.reserve_units(units)?;
         map.grow(units);
@@ -82,6 +93,7 @@ impl FreeMap {
         let more = (UNIT_BLOCKS * (units - self.units)) as usize;
         self.free.reserve(more)?;
         self.pending.reserve(more)?;
+        self.runs.reserve(UNIT_BLOCKS * units)?;
         self.room = units;
         Ok(())
     }
@@ -95,7 +107,10 @@ impl FreeMap {
         let more = UNIT_BLOCKS * (units - self.units);
         push_data_blocks(&mut self.free, self.per_unit, more);
         push_none(&mut self.pending, more);
+        add_units(&mut self.runs, self.per_unit, self.units, units);
         self.units = units;
+        self.free_count = count_set(self.free.as_slice());
+        self.pending_count = count_waiting(self.pending.as_slice());
     }
 
     /// Leaves only the units up to this number, forgets all blocks of the others, and ends the bar.
@@ -106,9 +121,12 @@ impl FreeMap {
         ensures { self.new ≡ shrunk self.old units }
     {
         self.units = units;
-        let blocks = (UNIT_BLOCKS * self.units) as usize;
-        self.free.truncate(blocks);
-        self.pending.truncate(blocks);
+        let blocks = UNIT_BLOCKS * self.units;
+        self.free.truncate(blocks as usize);
+        self.pending.truncate(blocks as usize);
+        self.runs.truncate(blocks);
+        self.free_count = count_set(self.free.as_slice());
+        self.pending_count = count_waiting(self.pending.as_slice());
         self.bar = None;
     }
 
@@ -153,42 +171,27 @@ impl FreeMap {
     pub fn free(&self) -> u32
         ensures { result ≡ free_blocks self.now }
     {
-        let mut count = 0;
-        for i in 0..self.blocks() {
-            if self.is_free_at(i) {
-                count += 1;
-            }
+        if self.bar.is_none() {
+            return self.free_count;
         }
-        count
+        self.runs.count_below(self.limit())
     }
 
     /// The length of the longest free run, in blocks; 0 where nothing is free.
     pub fn longest(&self) -> u32
         ensures longest { IsLongest self.now result }
     {
-        let mut best = 0;
-        let mut start = 0;
-        for i in 0..self.blocks() {
-            if self.is_free_at(i) {
-                best = max_of(best, i + 1 - start);
-            } else {
-                start = i + 1;
-            }
+        match self.runs.longest(self.limit()) {
+            Some(run) => run.len,
+            None => 0,
         }
-        best
     }
 
     /// How many blocks are pending.
     pub fn pending(&self) -> u32
         ensures { result ≡ count_by is_some self.now.pending }
     {
-        let mut count = 0;
-        for place in &self.pending {
-            if place.is_some() {
-                count += 1;
-            }
-        }
-        count
+        self.pending_count
     }
 
     /// Takes a block for a page that follows `after`, the block of the page before it. `first` is the
@@ -251,6 +254,8 @@ impl FreeMap {
     {
         let offset = b.get() - self.first;
         self.free[offset as usize] = false;
+        self.runs.take(offset, 1);
+        self.free_count -= 1;
     }
 
     /// Makes a used block free.
@@ -259,7 +264,13 @@ impl FreeMap {
         ensures { self.new ≡ with_bit self.old b true }
     {
         let offset = b.get() - self.first;
+        // A barred block that is free counts as used.
+        if self.free[offset as usize] {
+            return;
+        }
         self.free[offset as usize] = true;
+        self.runs.add(offset, 1);
+        self.free_count += 1;
     }
 
     /// Makes a used block wait for a place of the history.
@@ -269,6 +280,7 @@ impl FreeMap {
     {
         let offset = b.get() - self.first;
         self.pending[offset as usize] = Some(place);
+        self.pending_count += 1;
     }
 
     /// Makes every pending block free whose place is below `upto`, and answers how many.
@@ -276,7 +288,13 @@ impl FreeMap {
         ensures count { result ≡ count_by (is_before upto) self.old.pending }
         ensures released { self.new ≡ released self.old upto }
     {
-        release_before(&mut self.free, &mut self.pending, upto)
+        if self.pending_count == 0 {
+            return 0;
+        }
+        let count = release_before(&mut self.free, &mut self.pending, &mut self.runs, upto);
+        self.free_count = count_set(self.free.as_slice());
+        self.pending_count = count_waiting(self.pending.as_slice());
+        count
     }
 
     /// Bars the units from one on: their blocks count as not free.
@@ -311,46 +329,26 @@ impl FreeMap {
         Block::new(self.first + i)
     }
 
-    fn is_free_at(&self, i: u32) -> bool
-        requires { i < 4096 * self.now.units }
-        ensures { result ≡ is_free self.now (self.now.first + i) }
-    {
-        self.is_free(self.block_at(i))
-    }
-
-    /// Whether a block stands a multiple of `align` from the start of its unit.
-    fn is_aligned_at(&self, i: u32, align: u32) -> bool
-        requires { i < 4096 * self.now.units }
-        ensures { result ≡ is_aligned self.now align (self.now.first + i) }
-    {
-        let place = i % UNIT_BLOCKS;
-        if align == 0 {
-            return place == 0;
-        }
-        place % align == 0
-    }
-
     /// The lowest aligned start of a free run of n blocks.
     fn lowest_run(&self, n: u32, align: u32) -> Option<Block>
         requires { 0 < n }
         ensures found { IfSome result (λ b. IsLowestAligned self.now n align b) }
         ensures none { IfNone result (HasNoAligned self.now n align) }
     {
-        let mut start = 0;
-        for i in 0..self.blocks() {
-            if self.is_free_at(i) {
-                let length = i + 1 - start;
-                if length >= n {
-                    let from = i + 1 - n;
-                    if self.is_aligned_at(from, align) {
-                        return Some(self.block_at(from));
-                    }
-                }
-            } else {
-                start = i + 1;
-            }
+        match self.runs.first_fit(self.limit(), n, align) {
+            Some(start) => Some(self.block_at(start)),
+            None => None,
         }
-        None
+    }
+
+    /// The blocks of the units that are not barred stand below this one, counted from the start of unit 0.
+    fn limit(&self) -> u32
+        ensures { result ≡ limit_of self.now }
+    {
+        match self.bar {
+            Some(bar) => UNIT_BLOCKS * bar.min(self.units),
+            None => UNIT_BLOCKS * self.units,
+        }
     }
 
     /// The lowest start of a free run of n blocks.
@@ -367,11 +365,10 @@ impl FreeMap {
         ensures found { IfSome result (λ b. IsAtLongest self.now b) }
         ensures full { IfNone result (IsLongest self.now 0) }
     {
-        let length = self.longest();
-        if length == 0 {
-            return None;
+        match self.runs.longest(self.limit()) {
+            Some(run) => Some(self.block_at(run.start)),
+            None => None,
         }
-        self.lowest_of(length)
     }
 
     /// The block after `block`, if a page may go there.
@@ -433,6 +430,8 @@ impl FreeMap {
     {
         let from = b.get() - self.first;
         clear(&mut self.free, from as usize, n as usize);
+        self.runs.take(from, n);
+        self.free_count -= n;
     }
 }
 
@@ -482,32 +481,109 @@ fn max_of(a: u32, b: u32) -> u32
     if a < b { b } else { a }
 }
 
-fn clear(bits: &mut [bool], from: usize, n: usize)
-    requires { from + n ≤ length bits.old }
-    ensures { bits.new ≡ cleared bits.old from n }
+/// Takes n bits away from one on.
+fn clear(bits: &mut Vec<bool>, from: usize, n: usize)
+    requires { from + n ≤ length bits.old.items }
+    ensures items { bits.new.items ≡ cleared bits.old.items from n }
+    ensures capacity { vec_capacity bits.new ≡ vec_capacity bits.old }
 {
     for k in 0..n {
         bits[from + k] = false;
     }
 }
 
+/// Adds the data blocks of the units from one to another to the runs, which have none of them.
+fn add_units(runs: &mut RunIndex, per_unit: u32, from: u32, to: u32)
+    requires unit { per_unit < 4096 }
+    requires order { from ≤ to }
+    requires most { to ≤ 64 }
+    requires room { 4096 * to ≤ runs.old.room }
+    requires none { (i : ℕ) → 4096 * from ≤ i → covers runs.old.runs i ≡ false }
+    ensures covers { (i : ℕ) → covers runs.new.runs i ≡ (covers runs.old.runs i || is_unit_data per_unit from to i) }
+    ensures room { runs.new.room ≡ runs.old.room }
+{
+    if per_unit == 0 {
+        return;
+    }
+    for unit in from..to {
+        runs.add(UNIT_BLOCKS * unit + (UNIT_BLOCKS - per_unit), per_unit);
+    }
+}
+
+/// How many bits are set.
+fn count_set(bits: &[bool]) -> u32
+    requires { length bits.now ≤ 4096 * 64 }
+    ensures { result ≡ count_by (λ bit. bit) bits.now }
+{
+    let mut count = 0;
+    for bit in bits {
+        if *bit {
+            count += 1;
+        }
+    }
+    count
+}
+
+/// How many blocks wait for a place.
+fn count_waiting(places: &[Option<u64>]) -> u32
+    requires { length places.now ≤ 4096 * 64 }
+    ensures { result ≡ count_by is_some places.now }
+{
+    let mut count = 0;
+    for place in places {
+        if place.is_some() {
+            count += 1;
+        }
+    }
+    count
+}
+
 /// Sets the bit of each block whose place is below `upto`, takes the place away, and counts these blocks.
-fn release_before(free: &mut [bool], pending: &mut [Option<u64>], upto: u64) -> u32
-    requires same { length free.old ≡ length pending.old }
-    requires few { length free.old ≤ 4096 * 64 }
-    ensures count { result ≡ count_by (is_before upto) pending.old }
-    ensures free { free.new ≡ free_with upto pending.old free.old }
-    ensures pending { pending.new ≡ still_pending upto pending.old }
+fn release_before(
+    free: &mut Vec<bool>,
+    pending: &mut Vec<Option<u64>>,
+    runs: &mut RunIndex,
+    upto: u64,
+) -> u32
+    requires same { length free.old.items ≡ length pending.old.items }
+    requires few { length free.old.items ≤ 4096 * 64 }
+    requires room { length free.old.items ≤ runs.old.room }
+    requires covered { (i : ℕ) → covers runs.old.runs i ≡ slice_index_or free.old.items i false }
+    ensures count { result ≡ count_by (is_before upto) pending.old.items }
+    ensures free { free.new.items ≡ free_with upto pending.old.items free.old.items }
+    ensures pending { pending.new.items ≡ still_pending upto pending.old.items }
+    ensures free_capacity { vec_capacity free.new ≡ vec_capacity free.old }
+    ensures pending_capacity { vec_capacity pending.new ≡ vec_capacity pending.old }
+    ensures covered { (i : ℕ) → covers runs.new.runs i ≡ slice_index_or free.new.items i false }
+    ensures room { runs.new.room ≡ runs.old.room }
 {
     let mut count = 0;
     for i in 0..free.len() {
         if is_before(pending[i], upto) {
             pending[i] = None;
-            free[i] = true;
+            set_free(free, runs, i);
             count += 1;
         }
     }
     count
+}
+
+/// Sets the bit of a block and adds it to the runs, unless it is set.
+fn set_free(free: &mut Vec<bool>, runs: &mut RunIndex, i: usize)
+    requires bound { i < length free.old.items }
+    requires few { length free.old.items ≤ 4096 * 64 }
+    requires room { length free.old.items ≤ runs.old.room }
+    requires covered { (k : ℕ) → covers runs.old.runs k ≡ slice_index_or free.old.items k false }
+    ensures free { free.new.items ≡ slice_set free.old.items i true }
+    ensures capacity { vec_capacity free.new ≡ vec_capacity free.old }
+    ensures covered { (k : ℕ) → covers runs.new.runs k ≡ slice_index_or free.new.items k false }
+    ensures room { runs.new.room ≡ runs.old.room }
+{
+    if free[i] {
+        return;
+    }
+    free[i] = true;
+    runs.add(i as u32, 1);
 }
 
 fn is_before(place: Option<u64>, upto: u64) -> bool

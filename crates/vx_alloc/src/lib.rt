@@ -2,6 +2,7 @@
 #![tactic(auto)]
 
 mod free_map;
+mod run_index;
 
 pub use free_map::FreeMap;
 

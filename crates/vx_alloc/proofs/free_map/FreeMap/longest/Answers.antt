@@ -1,19 +1,21 @@
-use Rattle.std.proofs.Common.{◌≡◌, ◌*◌, ◌∙◌, sym, arith}
-use Rattle.vx_alloc.proofs.Runs.{longest_begins, longest_on, longest_off}
-use Rattle.vx_alloc.proofs.Units.{free_at, longest_found}
+use Rattle.std.proofs.Common.{ℕ, subst}
+use Rattle.vx_alloc.specs.FreeMaps.{FreeMapView}
+use Rattle.vx_alloc.specs.RunIndexes.{IsLongestRun, HasNoneBelow}
+use Rattle.vx_alloc.proofs.MapRuns.{IsMapOf, longest_is, none_longest}
 use Rattle.vx_alloc.proofs.free_map.FreeMap.longest.Goals as goal
-use Rattle.vx_alloc.proofs.free_map.FreeMap.longest.Goals.{then-is_free_at, else-is_free_at}
 
-pub loop-i-init : goal.loop-i-init
-loop-i-init c = longest_begins (free_at c.args.self.now)
+pub returns-in-Some : goal.returns-in-Some
+returns-in-Some c =
+    let fields = c.self.inside in
+    let map = subst (λ (v : FreeMapView). IsMapOf v fields.runs.runs) c.self.view_is (record { covered = c.self.invariant.1.covered; placed = c.self.invariant.1.placed; unit = c.self.invariant.0.data_blocks; bits = c.self.invariant.0.bits }) in
+    record {
+      longest = longest_is c.args.self.now fields.runs.runs map c.in-Some.ensures.apart c.in-Some.ensures.inside c.in-Some.run' (subst (λ (limit : ℕ). IsLongestRun fields.runs.runs limit c.in-Some.run') c.limit.ensures c.in-Some.ensures.found);
+    }
 
-pub loop-i-preserved : goal.loop-i-preserved
-loop-i-preserved c = elim c.if-is_free_at.branch [
-  | then-is_free_at w ↦ longest_on (free_at c.args.self.now) c.loop-i.best c.loop-i.start c.loop-i.i _ _ c.loop-i.invariant (sym c.is_free_at.ensures ∙ w.if-is_free_at.true) (w.best-is ∙ w.max_of-best.ensures) w.start-is
-  | else-is_free_at w ↦ longest_off (free_at c.args.self.now) c.loop-i.best c.loop-i.start c.loop-i.i _ _ c.loop-i.invariant (sym c.is_free_at.ensures ∙ w.if-is_free_at.false) w.best-is w.start-is
-]
-
-pub returns : goal.returns
-returns c = record {
-  longest = let whole : c.loop-i.i ≡ 4096 * c.args.self.now.units = omega arith in longest_found c.args.self.now c.loop-i.best c.loop-i.start c.loop-i.i c.loop-i.invariant whole;
-}
+pub returns-in-None : goal.returns-in-None
+returns-in-None c =
+    let fields = c.self.inside in
+    let map = subst (λ (v : FreeMapView). IsMapOf v fields.runs.runs) c.self.view_is (record { covered = c.self.invariant.1.covered; placed = c.self.invariant.1.placed; unit = c.self.invariant.0.data_blocks; bits = c.self.invariant.0.bits }) in
+    record {
+      longest = none_longest c.args.self.now fields.runs.runs map c.in-None.ensures.apart c.in-None.ensures.inside (subst (HasNoneBelow fields.runs.runs) c.limit.ensures c.in-None.ensures.none);
+    }

@@ -1,36 +1,18 @@
-use Rattle.std.proofs.Common.{◌≡◌, ◌*◌, ◌≤◌, ◌∙◌, sym, subst, arith}
-use Rattle.vx_alloc.specs.FreeMaps.{IsLowestAligned}
-use Rattle.vx_alloc.proofs.Runs.{search_begins, search_short, search_unwanted, search_off}
-use Rattle.vx_alloc.proofs.Units.{free_at, aligned_at, none_found, lowest_found}
+use Rattle.std.proofs.Common.{ℕ, subst, sym}
+use Rattle.vx_alloc.specs.FreeMaps.{FreeMapView, IsLowestAligned}
+use Rattle.vx_alloc.specs.RunIndexes.{IsFirstFit, HasNoFit}
+use Rattle.vx_alloc.proofs.MapRuns.{IsMapOf, first_fit_is, none_fit_is}
 use Rattle.vx_alloc.proofs.free_map.FreeMap.lowest_run.Goals as goal
-use Rattle.vx_alloc.proofs.free_map.FreeMap.lowest_run.Goals.{then-is_free_at+then-length-n+else-is_aligned_at, then-is_free_at+else-length-n, else-is_free_at}
 
-pub loop-i-init : goal.loop-i-init
-loop-i-init c = search_begins (free_at c.args.self.now) (aligned_at c.args.self.now c.args.align) c.args.n c.requires
+pub returns-in-Some-clause-found : goal.returns-in-Some-clause-found
+returns-in-Some-clause-found c =
+    let fields = c.self.inside in
+    let map = subst (λ (v : FreeMapView). IsMapOf v fields.runs.runs) c.self.view_is (record { covered = c.self.invariant.1.covered; placed = c.self.invariant.1.placed; unit = c.self.invariant.0.data_blocks; bits = c.self.invariant.0.bits }) in
+    subst (IsLowestAligned c.args.self.now c.args.n c.args.align) (sym c.block_at.ensures)
+    (first_fit_is c.args.self.now fields.runs.runs map c.in-Some.ensures.apart c.in-Some.ensures.inside c.args.n c.args.align c.in-Some.start c.requires (subst (λ (limit : ℕ). IsFirstFit fields.runs.runs limit c.args.n c.args.align c.in-Some.start) c.limit.ensures c.in-Some.ensures.found))
 
-pub loop-i-preserved : goal.loop-i-preserved
-loop-i-preserved c =
-    let within : c.loop-i.start ≤ c.loop-i.i = c.loop-i.invariant.run.within in
-    elim c.if-is_free_at.branch [
-      | then-is_free_at+then-length-n+else-is_aligned_at w ↦
-          search_unwanted (free_at c.args.self.now) (aligned_at c.args.self.now c.args.align) c.args.n c.loop-i.start c.loop-i.i _ _ c.loop-i.invariant
-          (sym c.is_free_at.ensures ∙ w.if-is_free_at.true) (omega arith) (sym w.is_aligned_at.ensures ∙ w.if-is_aligned_at.false) w.start-is
-      | then-is_free_at+else-length-n w ↦
-          search_short (free_at c.args.self.now) (aligned_at c.args.self.now c.args.align) c.args.n c.loop-i.start c.loop-i.i _ c.requires c.loop-i.invariant
-          (sym c.is_free_at.ensures ∙ w.if-is_free_at.true) (omega arith) w.start-is
-      | else-is_free_at w ↦
-          search_off (free_at c.args.self.now) (aligned_at c.args.self.now c.args.align) c.args.n c.loop-i.start c.loop-i.i _ c.requires c.loop-i.invariant
-          (sym c.is_free_at.ensures ∙ w.if-is_free_at.false) w.start-is
-    ]
-
-pub returns-then-is_aligned_at-clause-found : goal.returns-then-is_aligned_at-clause-found
-returns-then-is_aligned_at-clause-found c =
-    let within : c.loop-i.start ≤ c.loop-i.i = c.loop-i.invariant.run.within in
-    subst (λ b. IsLowestAligned c.args.self.now c.args.n c.args.align b) (sym c.block_at.ensures)
-    (lowest_found c.args.self.now c.args.n c.args.align c.loop-i.start c.loop-i.i _ c.requires c.loop-i.invariant (sym c.is_free_at.ensures ∙ c.if-is_free_at.true) (omega arith) (omega arith)
-    (sym c.is_aligned_at.ensures ∙ c.if-is_aligned_at.true))
-
-pub returns-clause-none : goal.returns-clause-none
-returns-clause-none c =
-    let whole : c.loop-i.i ≡ 4096 * c.args.self.now.units = omega arith in
-    none_found c.args.self.now c.args.n c.args.align c.loop-i.start c.loop-i.i c.requires c.loop-i.invariant whole
+pub returns-in-None-clause-none : goal.returns-in-None-clause-none
+returns-in-None-clause-none c =
+    let fields = c.self.inside in
+    let map = subst (λ (v : FreeMapView). IsMapOf v fields.runs.runs) c.self.view_is (record { covered = c.self.invariant.1.covered; placed = c.self.invariant.1.placed; unit = c.self.invariant.0.data_blocks; bits = c.self.invariant.0.bits }) in
+    none_fit_is c.args.self.now fields.runs.runs map c.in-None.ensures.apart c.in-None.ensures.inside c.args.n c.args.align c.requires (subst (λ (limit : ℕ). HasNoFit fields.runs.runs limit c.args.n c.args.align) c.limit.ensures c.in-None.ensures.none)
