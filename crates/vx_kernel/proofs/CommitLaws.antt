@@ -40,8 +40,8 @@ nameable : (batch : List AfterImage) → AllByRecursion IsInside batch → AllBy
 nameable [] h = tt
 nameable (e ∷ batch) h = (
   let low : 1028 ≤ e.0 = h.0.0 in
-  let high : e.0 < 9220 = h.0.1 in
-  record { home = inr (omega (arith, low)); inside = high; low = omega (arith, high) },
+      let high : e.0 < 9220 = h.0.1 in
+      record { home = inr (omega (arith, low)); inside = high; low = omega (arith, high) },
   nameable batch h.1,
 )
 

@@ -1,5 +1,5 @@
 -- What a journal rests on: laws of the tape, of the log and of images, as it uses them.
-use Rattle.std.specs.Prelude.{◌≡◌, ◌≢◌, ◌⊎◌, ◌<◌, ◌≤◌, ◌^◌, ◌+◌, option_map, ℕ, Bool, false, IsTrue, List, length, Contains}
+use Rattle.std.specs.Prelude.{◌≡◌, ◌≢◌, ◌⊎◌, ◌<◌, ◌≤◌, ◌+◌, option_map, ℕ, Bool, false, IsTrue, List, length, Contains}
 use Rattle.std.specs.List.{AllByRecursion}
 use Rattle.std.specs.List.Sorted.{IsStrictlyIncreasing}
 use Rattle.vx_dev.specs.declared.device.Operation.{Operation}

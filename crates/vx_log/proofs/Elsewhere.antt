@@ -1,5 +1,5 @@
 -- What a crash may leave in a sector other than the head sector, while the head sector is written.
-use Rattle.std.proofs.Common.{◌≡◌, ◌≢◌, ℕ, List, sym, subst, inl, inr}
+use Rattle.std.proofs.Common.{◌≢◌, ℕ, List, sym, subst, inl, inr}
 use Rattle.std.specs.Prelude.{option_map, Option, Some, None, IfSome}
 use Rattle.vx_dev.specs.declared.device.Operation.{Operation}
 use Rattle.vx_dev.specs.declared.device.Operation.TheVariants.{Put, Barrier}

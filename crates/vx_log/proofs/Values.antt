@@ -1,5 +1,5 @@
 -- What a crash may leave in one sector, while several sectors are written.
-use Rattle.std.proofs.Common.{◌≡◌, ◌+◌, ◌<◌, ℕ, List, [], length, get_or, ⊎_elim, inl, inr, subst, sym, Contains}
+use Rattle.std.proofs.Common.{◌≡◌, ◌<◌, ℕ, List, [], length, get_or, ⊎_elim, inl, inr, subst, sym, Contains}
 use Rattle.std.specs.Prelude.{Option, Some, IfSome}
 use Rattle.vx_dev.specs.declared.device.Operation.{Operation}
 use Rattle.vx_dev.specs.declared.device.Operation.TheVariants.{Put}
@@ -60,9 +60,9 @@ module _ (s : ℕ) (values : List (List ℕ)) where
     pub values_broken : (old new : State) → BrokeOff writes old new → Told old Keeps → Passed There old new
     values_broken old new broke h =
         let past = λ (t : Tape) (e : old.told ≡ Some t).
-            let kept : Told new (Keeping (length t.ops)) =
-                broken_keeps (λ _. Keeping (length t.ops)) writes none (step (length t.ops)) (Keeping (length t.ops))
-                (λ i u lt k. let w : ℕ × List ℕ = get_or writes i none in after (length t.ops) (tried w.0 w.1) w.0 w.1 u (tried_writes w.0 w.1) (among i none lt) k)
-                (λ i u lt k. k) old new broke (begun old t e h) in
-            told_weaker new (Keeping (length t.ops)) (λ u. Past (length t.ops) (λ _. There) u × Shows There u) (λ u p. (p.past, shows u p.keeps)) kept in
+        let kept : Told new (Keeping (length t.ops)) =
+        broken_keeps (λ _. Keeping (length t.ops)) writes none (step (length t.ops)) (Keeping (length t.ops))
+        (λ i u lt k. let w : ℕ × List ℕ = get_or writes i none in after (length t.ops) (tried w.0 w.1) w.0 w.1 u (tried_writes w.0 w.1) (among i none lt) k)
+        (λ i u lt k. k) old new broke (begun old t e h) in
+        told_weaker new (Keeping (length t.ops)) (λ u. Past (length t.ops) (λ _. There) u × Shows There u) (λ u p. (p.past, shows u p.keeps)) kept in
         ⊎_elim (λ ran. passed_past There _ old new ran.told past) (λ ran. passed_past There _ old new ran.told past) broke.ran

@@ -3,16 +3,14 @@ use Rattle.std.proofs.Common.{◌≡◌, ◌≢◌, ℕ, zero, suc, ◌+◌, ◌
 use Rattle.std.specs.Prelude.{◌==◌, ◌||◌, IsTrue, IfSome, if◌then◌else◌, take, is_some}
 use Rattle.std.specs.Option.{option_and_then}
 use Rattle.std.specs.List.{flat_map}
-use Rattle.std.specs.FinMap as map
-use Rattle.std.proofs.lemmas.Bool.{eq-eqb}
 use Rattle.vx_base.specs.declared.kind.FileKind.{FileKind}
 use Rattle.vx_base.specs.declared.kind.FileKind.TheVariants.{File, Directory}
 use Rattle.vx_base.specs.declared.inode.InodeValue.{InodeValue}
-use Rattle.vx_layout.specs.Places.{Volume, Place, outside, blank, bits, slots, part, per_block, block_sector, is_data, place_of, IsVolume}
+use Rattle.vx_layout.specs.Places.{Volume, Place, outside, blank, bits, slots, part, per_block, block_sector, is_data, place_of}
 use Rattle.vx_model.specs.Legal.{IfThere}
 use Rattle.vx_model.specs.Tree.{Tree, Node, IsFile}
-use Rattle.vx_model.specs.Images.{Parsed, Stands, among, content, content_at}
-use Rattle.vx_model.specs.Reads.{numbers, blocks_of, block_bytes, file_bytes, node_by, node_of, IsTree, Valid, ImageReadsAs}
+use Rattle.vx_model.specs.Images.{Parsed, Stands, among, content}
+use Rattle.vx_model.specs.Reads.{numbers, blocks_of, block_bytes, file_bytes, node_by, node_of, Valid, ImageReadsAs}
 
 -- ---- lists
 
@@ -62,8 +60,8 @@ module _ (v : Volume) (parts : (b i : ℕ) → IsTrue (is_data v b) → i < per_
   block_same : (n : ℕ) → IsTrue (is_data v n) → block_bytes v a n ≡ block_bytes v b n
   block_same n data_ = same_run (λ i. a (block_sector (per_block v) n + i)) (λ i. b (block_sector (per_block v) n + i)) 0 (per_block v)
       (λ i lt. let e : i ≡ 0 + i = omega arith in
-          subst (λ (k : ℕ). a (block_sector (per_block v) n + k) ≡ b (block_sector (per_block v) n + k)) e
-          (same (block_sector (per_block v) n + i) (λ e. let wrong : part n i ≡ outside = sym (parts n i data_ lt) ∙ e in cc)))
+      subst (λ (k : ℕ). a (block_sector (per_block v) n + k) ≡ b (block_sector (per_block v) n + k)) e
+      (same (block_sector (per_block v) n + i) (λ e. let wrong : part n i ≡ outside = sym (parts n i data_ lt) ∙ e in cc)))
 
   module _ (p : Parsed) (valid : Valid v p) where
     claimed_data : (n : ℕ) (o : Option ℕ) → p.claims n ≡ o → is_some o ≡ true → IsTrue (is_data v n)

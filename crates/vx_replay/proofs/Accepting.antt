@@ -1,6 +1,6 @@
 -- An image that replays is read without a refusal.
-use Rattle.std.proofs.Common.{◌≡◌, ◌⊎◌, ℕ, zero, suc, ◌+◌, ◌*◌, ◌<◌, ◌≤◌, ◌^◌, Bool, true, false, List, [], ◌∷◌, ◌++◌, length, get_or, refl, sym, ap, subst, ◌∙◌, arith, inl, inr, length-append}
-use Rattle.std.specs.Prelude.{◌==◌, nat_lt, Result, Ok, Err}
+use Rattle.std.proofs.Common.{◌≡◌, ℕ, suc, ◌+◌, ◌*◌, ◌<◌, ◌≤◌, ◌^◌, List, [], ◌∷◌, ◌++◌, length, get_or, refl, sym, ap, subst, ◌∙◌, arith, inl, inr, length-append}
+use Rattle.std.specs.Prelude.{Result, Ok}
 use Rattle.std.specs.Int.{w32}
 use Rattle.std.specs.List.{AllByRecursion}
 use Rattle.std.proofs.lemmas.Bool.{le-ltb, ne_eqb, eq-eqb}
@@ -13,10 +13,10 @@ use Rattle.vx_layout.specs.Places.{sectors_of}
 use Rattle.vx_layout.specs.Supers.{IsSuper, super_at, super_bytes, volume_of}
 use Rattle.vx_log.specs.Ends.{AreNames, IsEnds, ends_bytes}
 use Rattle.vx_log.specs.declared.read.Ends.{Ends}
-use Rattle.vx_model.specs.Replays.{HasRecords, ReplaysAs}
+use Rattle.vx_model.specs.Replays.{ReplaysAs}
 use Rattle.vx_model.specs.Tree.{Tree}
-use Rattle.vx_replay.specs.BadImages.{bad, with_room, with_log, checked_super, checked_again, first_super, HasLog, IsBadLast, IsBadSuper, IsBadLog, WhyBadLog}
-use Rattle.vx_replay.specs.LogReads.{StandThere, AreRecords, HasNoRecord, EndsBadly}
+use Rattle.vx_replay.specs.BadImages.{bad, with_room, with_log, checked_super, checked_again, first_super, HasLog, IsBadSuper, IsBadLog, WhyBadLog}
+use Rattle.vx_replay.specs.LogReads.{StandThere, AreRecords, HasNoRecord}
 use Rattle.vx_replay.proofs.LogReading.{length-homes, length-images}
 
 -- what the forms of the superblock and the log say
@@ -74,7 +74,7 @@ module _ (laws : FormLaws) (n small size head : ℕ) (image : ℕ → List ℕ) 
       let few_p : length (homes_of p) ≤ 124 = omega (arith, are.form.0.few, length-homes p) in
       let few_r : length (homes_of r) ≤ 124 = omega (arith, form.0.few, length-homes r) in
       let count : length (homes_of p) ≡ length (homes_of r) =
-          sym (laws.count tail (homes_of p) few_p) ∙ ap (number_at w32 4) (sym one ∙ other) ∙ laws.count tail (homes_of r) few_r in
+      sym (laws.count tail (homes_of p) few_p) ∙ ap (number_at w32 4) (sym one ∙ other) ∙ laws.count tail (homes_of r) few_r in
       let same : length p ≡ length r = omega (arith, count, length-homes p, length-homes r) in
       let next_p : ℕ = tail + (1 + length p) in
       let next_r : ℕ = tail + (1 + length r) in
@@ -126,7 +126,7 @@ module _ (laws : FormLaws) (image : ℕ → List ℕ) (tree : Tree) (h : Replays
       let ends = ends_same log.ends log.is_ends log.head_is in
       let count : length (log_sectors h.log.tail h.records) ≡ length (log_sectors log.ends.tail records) = omega (arith, h.log.ends, log.are.ends, ends.0, ends.1) in
       let same : log_sectors h.log.tail h.records ≡ log_sectors log.ends.tail records = ext_get_or [] (log_sectors h.log.tail h.records) (log_sectors log.ends.tail records) count
-          (λ i lt. sym (h.log.whole i lt) ∙ ap (λ (p : ℕ). image (log_at n (p + i))) ends.0 ∙ log.stand i (omega (arith, lt, count))) in
+      (λ i lt. sym (h.log.whole i lt) ∙ ap (λ (p : ℕ). image (log_at n (p + i))) ends.0 ∙ log.stand i (omega (arith, lt, count))) in
       sym (laws.records n (sectors_of (volume_of h.superblock)) size h.log.tail h.records records h.log.form log.are.form (same ∙ sym (ap (λ (p : ℕ). log_sectors p records) ends.0)))
 
   pub super_good : (field : ℕ) → IsBadSuper size image field → ⊥

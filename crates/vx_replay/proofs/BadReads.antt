@@ -1,6 +1,6 @@
 -- What was read of an image that is refused.
-use Rattle.std.proofs.Common.{◌≡◌, ℕ, false, List, refl, sym, ap, ◌∙◌}
-use Rattle.std.specs.Prelude.{◌==◌, Result}
+use Rattle.std.proofs.Common.{◌≡◌, ℕ, List, sym, ap, ◌∙◌}
+use Rattle.std.specs.Prelude.{Result}
 use Rattle.std.proofs.lemmas.Bool.{ne_eqb}
 use Rattle.vx_layout.specs.declared.superblock.Super.{Super}
 use Rattle.vx_layout.specs.declared.superblock.BadSuper.{BadSuper}

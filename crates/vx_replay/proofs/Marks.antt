@@ -1,5 +1,5 @@
 -- The superblock of an image that was left clean is written over an empty log.
-use Rattle.std.proofs.Common.{◌≡◌, ◌≢◌, ◌⊎◌, ℕ, ◌+◌, ◌*◌, ◌<◌, ◌≤◌, ◌^◌, Bool, true, false, List, [], length, Option, Some, None, refl, sym, ap, subst, ◌∙◌, arith, inl, inr}
+use Rattle.std.proofs.Common.{◌≡◌, ◌⊎◌, ℕ, ◌+◌, ◌*◌, ◌<◌, ◌≤◌, ◌^◌, true, false, List, [], length, Option, Some, None, refl, sym, ap, subst, ◌∙◌, arith, inl, inr}
 use Rattle.std.specs.Prelude.{IsTrue, IfSome, option_map, Result, Ok, Err, OnOk, OnErr}
 use Rattle.std.specs.List.{AllByRecursion}
 use Rattle.vx_dev.specs.declared.device.DevFault.{DevFault}
@@ -7,7 +7,7 @@ use Rattle.vx_dev.specs.declared.device.Operation.{Operation}
 use Rattle.vx_dev.specs.declared.device.Operation.TheVariants.{Put, Barrier}
 use Rattle.vx_dev.specs.Tape.{Tape, State as Device, Did, DidNothing, Failed, Writes, did, tried, MayHold, Settles, now, IsImage}
 use Rattle.vx_layout.specs.declared.superblock.Super.{Super}
-use Rattle.vx_layout.specs.LogForms.{AfterImage, IsRecord, LogState, ReadsAs, head_sector, log_sectors, overlay_all}
+use Rattle.vx_layout.specs.LogForms.{AfterImage, IsRecord, LogState, head_sector, log_sectors, overlay_all}
 use Rattle.vx_layout.specs.Places.{sectors_of}
 use Rattle.vx_layout.specs.Supers.{IsSuper, super_bytes, volume_of}
 use Rattle.vx_log.specs.Crashes.{Stands}
@@ -42,8 +42,16 @@ module _ (laws : ReplayLaws) (sb : Super) (is_super : IsSuper sb) (tree : Tree) 
 
   begins : (t : Tape) → IsEmptied sb tree t → IsMarking t
   begins t k = record {
-    reading = k.reading; records = k.records; level = k.level; serial = k.serial; limit = k.limit; stands = k.stands; above = k.above; not_super = k.not_super;
-    superblock = λ x may. inl (k.superblock x may); reads = k.reads;
+    reading = k.reading;
+    records = k.records;
+    level = k.level;
+    serial = k.serial;
+    limit = k.limit;
+    stands = k.stands;
+    above = k.above;
+    not_super = k.not_super;
+    superblock = λ x may. inl (k.superblock x may);
+    reads = k.reads;
   }
 
   abbrev Good : (ℕ → List ℕ) → Type 0
@@ -67,19 +75,29 @@ module _ (laws : ReplayLaws) (sb : Super) (is_super : IsSuper sb) (tree : Tree) 
 
   after_write : (t : Tape) (op : Operation) → Writes op 0 clean_bytes → IsMarking t → IsMarking (did op t)
   after_write t op w k = record {
-    reading = k.reading; records = k.records; level = k.level; serial = k.serial; limit = k.limit;
+    reading = k.reading;
+    records = k.records;
+    level = k.level;
+    serial = k.serial;
+    limit = k.limit;
     stands = laws.written n k.reading t op 0 clean_bytes w
         (record { no_record = λ i lt same. absurd (omega (arith, lt, no_sectors k.reading k.records)); decided = λ there. absurd (let wrong : true ≡ false = sym there ∙ k.not_super in cc) }) (λ same. omega (arith, same)) k.stands;
-    above = k.above; not_super = k.not_super;
+    above = k.above;
+    not_super = k.not_super;
     superblock = λ x may. elim (w.may t 0 x may) [ inl before ↦ k.superblock x before | inr here ↦ inr here.1 ];
     reads = k.reads;
   }
 
   after_barrier : (t : Tape) → IsMarking t → IsMarking (did Barrier t)
   after_barrier t k = record {
-    reading = k.reading; records = k.records; level = k.level; serial = k.serial; limit = k.limit;
+    reading = k.reading;
+    records = k.records;
+    level = k.level;
+    serial = k.serial;
+    limit = k.limit;
     stands = laws.barrier n k.reading t k.stands;
-    above = k.above; not_super = k.not_super;
+    above = k.above;
+    not_super = k.not_super;
     superblock = λ x may. k.superblock x (laws.tape.barrier_adds t 0 x may);
     reads = k.reads;
   }

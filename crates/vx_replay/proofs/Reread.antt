@@ -1,17 +1,17 @@
 -- What a crash leaves of a stopped image, whatever of its log is written home, replays as the same tree.
-use Rattle.std.proofs.Common.{◌≡◌, ◌≢◌, ◌⊎◌, ℕ, zero, suc, ◌+◌, ◌*◌, ◌<◌, ◌≤◌, ◌^◌, Bool, true, false, List, [], ◌∷◌, ◌++◌, length, get_or, Option, Some, None, refl, sym, ap, subst, ◌∙◌, arith, inl, inr, Contains}
-use Rattle.std.specs.Prelude.{◌||◌, ◌==◌, nat_le, IsTrue, IfSome, All, unwrap_or}
+use Rattle.std.proofs.Common.{◌≡◌, ◌⊎◌, ℕ, zero, suc, ◌+◌, ◌*◌, ◌<◌, ◌≤◌, ◌^◌, Bool, true, false, List, [], ◌∷◌, ◌++◌, length, get_or, Option, Some, None, refl, sym, ap, subst, ◌∙◌, arith, inl, inr, Contains}
+use Rattle.std.specs.Prelude.{◌||◌, ◌==◌, nat_le, IsTrue, All, unwrap_or}
 use Rattle.std.specs.List.{AllByRecursion}
 use Rattle.std.specs.List.Sorted.{IsStrictlyIncreasing}
-use Rattle.std.proofs.lemmas.Bool.{cases_eq, eqb-true, le-leb, leb-true}
+use Rattle.std.proofs.lemmas.Bool.{eqb-true, le-leb, leb-true}
 use Rattle.std.proofs.lemmas.List.Elements.{All-nil, All-cons, All-get_or, All-from_get_or}
 use Rattle.vx_dev.specs.Tape.{Tape, MayHold}
 use Rattle.vx_layout.specs.declared.superblock.Super.{Super}
 use Rattle.vx_layout.specs.LogForms.{AfterImage, IsNameable, IsRecord, LogState, ReadsAs, homes_of, log_at, overlay, overlay_all}
-use Rattle.vx_layout.specs.Places.{outside, place_of, sectors_of}
+use Rattle.vx_layout.specs.Places.{sectors_of}
 use Rattle.vx_layout.specs.Supers.{IsSuper, super_bytes, volume_of}
 use Rattle.vx_log.specs.Batches as batches
-use Rattle.vx_log.specs.Crashes.{Stands, IsDecided, IsPutHome, emptied}
+use Rattle.vx_log.specs.Crashes.{Stands, IsPutHome, emptied}
 use Rattle.vx_log.specs.Stages.{AreHomes, AreWritten, AreHomesPut}
 use Rattle.vx_log.specs.Logs.{next_serial}
 use Rattle.vx_home.specs.Homes.{with_notes, noted_at}
@@ -122,7 +122,16 @@ module _ (laws : ReplayLaws) (tree : Tree) (sb first : Super) (same_log : sb.log
   good r b image serial limit form above contents rd last v is_v first_is same =
       let vol : ℕ = sectors_of (volume_of sb) in
       let log : HasRecords (2 * first.log_blocks) vol image r.records = record {
-        serial = r.serial; tail = r.tail; head = r.head; serial_limit = serial; limit = limit; form = form; head_is = rd.head_is; ends = rd.ends; fits = rd.fits; whole = rd.whole;
+        serial = r.serial;
+        tail = r.tail;
+        head = r.head;
+        serial_limit = serial;
+        limit = limit;
+        form = form;
+        head_is = rd.head_is;
+        ends = rd.ends;
+        fits = rd.fits;
+        whole = rd.whole;
       } in
       record {
         first = v;

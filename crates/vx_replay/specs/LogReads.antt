@@ -2,7 +2,7 @@
 use Rattle.std.specs.Prelude.{◌≡◌, ◌+◌, ◌<◌, ◌≤◌, ℕ, List, [], ◌∷◌, length, map, get_or, Some}
 use Rattle.std.specs.List.{AllByRecursion}
 use Rattle.vx_dev.specs.Tape.{State, Tape}
-use Rattle.vx_layout.specs.LogForms.{AfterImage, IsRecord, homes_of, log_at, log_sectors, descriptor}
+use Rattle.vx_layout.specs.LogForms.{AfterImage, IsRecord, log_at, log_sectors, descriptor}
 use Rattle.vx_log.specs.Ends.{AreNames}
 
 -- the device tells that it has come to this, and no write of it is in doubt

@@ -1,5 +1,5 @@
 -- When the reading of an image is refused.
-use Rattle.std.specs.Prelude.{◌≡◌, Result, Ok, Err}
+use Rattle.std.specs.Prelude.{Result, Ok, Err}
 use Rattle.vx_base.specs.Faults.{Rose}
 use Rattle.vx_dev.specs.Tape.{State}
 use Rattle.vx_replay.specs.declared.refusal.ReplayRefusal.{ReplayRefusal}

@@ -1,5 +1,5 @@
 -- What a replay rests on: laws of the tape, of the log and of images.
-use Rattle.std.specs.Prelude.{◌≡◌, ◌≢◌, ◌⊎◌, ◌<◌, ◌≤◌, ◌+◌, ◌*◌, ◌^◌, ℕ, Bool, IsTrue, List, Contains}
+use Rattle.std.specs.Prelude.{◌≡◌, ◌≢◌, ◌<◌, ◌≤◌, ◌+◌, ◌*◌, ◌^◌, ℕ, Bool, IsTrue, List, Contains}
 use Rattle.std.specs.List.{AllByRecursion}
 use Rattle.vx_dev.specs.declared.device.Operation.{Operation}
 use Rattle.vx_dev.specs.declared.device.Operation.TheVariants.{Barrier}

@@ -1,11 +1,13 @@
 //! The replay of a stopped image's log: what the log holds is carried home, and the image is left clean.
 #![tactic(auto)]
 
+mod laws;
 mod load;
 mod read;
 mod refusal;
 mod top;
 mod writing;
 
+pub use laws::never_refused;
 pub use refusal::ReplayRefusal;
 pub use top::{Replayed, replay};

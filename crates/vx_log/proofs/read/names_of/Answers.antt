@@ -1,4 +1,4 @@
-use Rattle.std.proofs.Common.{◌≤◌, length, arith}
+use Rattle.std.proofs.Common.{arith}
 use Rattle.vx_log.proofs.ReadSectors.{numbers_are}
 use Rattle.vx_log.proofs.read.names_of.Goals as goal
 

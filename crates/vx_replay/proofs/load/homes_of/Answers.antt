@@ -1,4 +1,4 @@
-use Rattle.std.proofs.Common.{◌≡◌, ◌+◌, ◌≤◌, [], length, take, sym, subst, ap, ◌∙◌, arith, List}
+use Rattle.std.proofs.Common.{◌≡◌, ◌+◌, ◌≤◌, length, take, sym, subst, ap, ◌∙◌, arith, List}
 use Rattle.vx_layout.specs.LogForms.{AfterImage}
 use Rattle.vx_home.specs.Homes.{with_notes}
 use Rattle.vx_replay.specs.LogReads.{image_count}

@@ -1,5 +1,5 @@
-use Rattle.std.proofs.Common.{◌≡◌, ◌+◌, ◌-◌, ◌*◌, ◌<◌, ◌≤◌, ℕ, List, [], length, refl, sym, subst, ap, ◌∙◌, arith}
-use Rattle.std.specs.Prelude.{All, unwrap_or, Err}
+use Rattle.std.proofs.Common.{◌≡◌, ◌*◌, ◌<◌, ℕ, List, [], length, sym, subst, ap, ◌∙◌, arith}
+use Rattle.std.specs.Prelude.{All, Err}
 use Rattle.vx_layout.specs.LogForms.{AfterImage, overlay_all}
 use Rattle.vx_log.specs.Logs.{LogView, AreStarts}
 use Rattle.vx_home.specs.Homes.{noted_at}

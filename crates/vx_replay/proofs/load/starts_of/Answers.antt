@@ -1,4 +1,4 @@
-use Rattle.std.proofs.Common.{◌≡◌, ◌+◌, ◌<◌, ◌^◌, length, sym, ap, ◌∙◌, arith, List}
+use Rattle.std.proofs.Common.{◌+◌, ◌∙◌, arith, List}
 use Rattle.vx_layout.specs.LogForms.{AfterImage}
 use Rattle.vx_replay.proofs.Loading.{length_next, length_part, starts_more}
 use Rattle.vx_replay.proofs.load.starts_of.Goals as goal

@@ -1,4 +1,4 @@
-use Rattle.std.proofs.Common.{◌≡◌, ℕ, List, take}
+use Rattle.std.proofs.Common.{◌≡◌, take}
 use Rattle.vx_dev.specs.Tape.{Tape, now}
 use Rattle.vx_layout.specs.LogForms.{homes_of}
 use Rattle.vx_replay.specs.LogReads.{Shows, IsRead, images_of, StandThere}

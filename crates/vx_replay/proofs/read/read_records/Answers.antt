@@ -1,9 +1,8 @@
 use Rattle.std.specs.Prelude.{Err}
-use Rattle.std.proofs.Common.{◌≡◌, ◌+◌, ◌<◌, ℕ, List, [], ◌∷◌, ◌++◌, length, sym, ◌∙◌, ap, subst, arith}
-use Rattle.vx_dev.specs.Tape.{Tape, now}
-use Rattle.vx_layout.specs.LogForms.{AfterImage, IsRecord, log_at, log_sectors}
-use Rattle.vx_replay.specs.LogReads.{IsRead, StandThere, AreRecords, HasNoRecord, EndsBadly}
-use Rattle.vx_replay.specs.declared.refusal.ReplayRefusal.{ReplayRefusal}
+use Rattle.std.proofs.Common.{◌≡◌, ◌+◌, ℕ, List, [], ◌∷◌, ◌++◌, length, sym, ◌∙◌, ap, subst, arith}
+use Rattle.vx_dev.specs.Tape.{now}
+use Rattle.vx_layout.specs.LogForms.{AfterImage, IsRecord, log_sectors}
+use Rattle.vx_replay.specs.LogReads.{StandThere, AreRecords, HasNoRecord}
 use Rattle.vx_replay.specs.declared.refusal.ReplayRefusal.TheVariants.{BadLog}
 use Rattle.vx_replay.proofs.LogReading.{read_more, still_shows, records_push, stand_push}
 use Rattle.vx_replay.proofs.read.read_records.Goals as goal
@@ -28,7 +27,6 @@ loop-position-preserved g c =
       stand = λ t shows. subst (λ (l : List (List AfterImage)). StandThere n (now t) c.args.ends.tail (log_sectors c.args.ends.tail l)) (sym items)
           (stand_push n d0.size (now t) c.args.ends.tail position rs r inv.are (inv.stand t shows) (c.in-Ok.ensures.stand t (still_shows d0 d1 t inv.read shows)));
     }
-
 
 pub returns-in-Err-clause-bad : goal.returns-in-Err-clause-bad
 returns-in-Err-clause-bad g c = λ t s shows is.

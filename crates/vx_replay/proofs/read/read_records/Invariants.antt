@@ -1,4 +1,4 @@
-use Rattle.std.proofs.Common.{◌≡◌, ◌≤◌, ◌-◌, ℕ, List}
+use Rattle.std.proofs.Common.{◌≤◌, ◌-◌}
 use Rattle.vx_dev.specs.Tape.{Tape, now}
 use Rattle.vx_layout.specs.LogForms.{log_sectors}
 use Rattle.vx_replay.specs.LogReads.{Shows, IsRead, StandThere, AreRecords}

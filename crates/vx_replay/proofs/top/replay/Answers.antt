@@ -1,4 +1,4 @@
-use Rattle.std.proofs.Common.{◌≡◌, ℕ, sym, subst}
+use Rattle.std.proofs.Common.{ℕ, sym, subst}
 use Rattle.vx_dev.specs.Tape.{now}
 use Rattle.vx_replay.specs.Stopped.{IsReadFrom}
 use Rattle.vx_replay.proofs.LogReading.{still_shows}

@@ -1,4 +1,4 @@
-use Rattle.std.proofs.Common.{◌≡◌, sym, ◌∙◌}
+use Rattle.std.proofs.Common.{sym, ◌∙◌}
 use Rattle.std.specs.Prelude.{Result, Ok, Err, OnOk}
 use Rattle.vx_dev.specs.declared.device.DevFault.{DevFault}
 use Rattle.vx_layout.specs.LogForms.{LogState}

@@ -1,4 +1,4 @@
-use Rattle.std.proofs.Common.{◌≡◌, ℕ, List, subst}
+use Rattle.std.proofs.Common.{ℕ, List, subst}
 use Rattle.vx_dev.specs.declared.device.Operation.TheVariants.{Put}
 use Rattle.vx_dev.specs.Tape.{Did, Failed}
 use Rattle.vx_replay.proofs.Marks.{put_failed, marked_passed, marked_left}
