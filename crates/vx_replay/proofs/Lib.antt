@@ -4,3 +4,4 @@ pub mod Steps
 pub mod Marks
 pub mod Loading
 pub mod BadReads
+pub mod Recovering

@@ -8,4 +8,7 @@ mod top;
 mod writing;
 
 pub use refusal::ReplayRefusal;
-pub use top::{Replayed, replay};
+pub use top::{Recovered, replay};
+
+#[cfg(test)]
+mod tests;
