@@ -1,5 +1,5 @@
 -- An image that was left clean, and one that needs a replay.
-use Rattle.std.proofs.Common.{◌≡◌, ℕ, ◌+◌, ◌<◌, ◌≤◌, ◌^◌, Bool, true, false, List, [], ◌∷◌, length, refl, sym, ap, subst, ◌∙◌, arith}
+use Rattle.std.proofs.Common.{◌≡◌, ℕ, ◌+◌, ◌<◌, ◌^◌, Bool, true, false, List, [], ◌∷◌, length, refl, sym, ap, subst, ◌∙◌, arith}
 use Rattle.std.specs.Prelude.{◌==◌, ◌&&◌}
 use Rattle.std.proofs.lemmas.Bool.{eqb-true, eq-eqb}
 use Rattle.vx_layout.specs.declared.superblock.Super.{Super}
@@ -8,7 +8,6 @@ use Rattle.vx_layout.specs.Supers.{IsSuper, super_bytes, volume_of}
 use Rattle.vx_model.specs.Reads.{ImageReadsAs}
 use Rattle.vx_model.specs.Replays.{ReplaysAs, IsClean}
 use Rattle.vx_model.specs.Tree.{Tree}
-use Rattle.vx_replay.specs.BadImages.{HasLog}
 use Rattle.vx_replay.specs.Replayed.{IsCounted}
 use Rattle.vx_replay.specs.Stopped.{IsReadFrom}
 use Rattle.vx_replay.specs.declared.load.Stopped.{Stopped}

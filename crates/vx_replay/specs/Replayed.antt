@@ -1,5 +1,5 @@
 -- What a replay answers.
-use Rattle.std.specs.Prelude.{◌≡◌, ◌<◌, ◌≤◌, ℕ, true, List, length, Result, Ok, Err}
+use Rattle.std.specs.Prelude.{◌≡◌, ◌<◌, ℕ, true, List, length, Result, Ok, Err}
 use Rattle.vx_base.specs.Faults.{Rose}
 use Rattle.vx_dev.specs.Tape.{State}
 use Rattle.vx_layout.specs.LogForms.{AfterImage, overlay_all}

@@ -7,13 +7,9 @@ use std::alloc::AllocError;
 #[derive(Clone, Copy, Debug, PartialEq, Eq)]
 pub enum ReplayRefusal {
     /// The first bad field of the superblock (docs/LAYOUT.md).
-    BadSuper {
-        field: u32,
-    },
+    BadSuper { field: u32 },
     /// The sector of the log that is wrong: the head sector, or that of a descriptor.
-    BadLog {
-        sector: u64,
-    },
+    BadLog { sector: u64 },
     ReadFault,
     WriteFault,
     NoMemory,

@@ -15,8 +15,7 @@ fn disk(alloc: Global, sectors: u64) -> Result<MemDisk, AllocError> {
 fn zeros(rt: HostRuntime) -> Result<(), Fail> {
     for sectors in [0, 9_220] {
         let mut disk = disk(rt.alloc(), sectors)?;
-        assert_eq!(
-            rt;
+        assert_eq!(rt;
             replay(rt.alloc(), &mut disk),
             Err(ReplayRefusal::BadSuper { field: 1 })
         );
