@@ -21,9 +21,9 @@ impl End {
         match self {
             End::Done(_) => 0,
             End::BadWords => 1,
-            End::Refused(ReplayRefusal::BadSuper { field: _ } | ReplayRefusal::BadLog { sector: _ }) => {
-                2
-            }
+            End::Refused(
+                ReplayRefusal::BadSuper { field: _ } | ReplayRefusal::BadLog { sector: _ },
+            ) => { 2 }
             End::Refused(ReplayRefusal::WriteFault) => 4,
             End::Refused(ReplayRefusal::NoMemory) => 6,
             End::Refused(ReplayRefusal::ReadFault) => 8,

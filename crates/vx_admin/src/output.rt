@@ -25,11 +25,7 @@ pub fn render<K: Sink>(end: &End, out: &mut K) -> Result<(), SinkFault>
 }
 
 /// Puts the line of an end, and hands it to the sink.
-fn put_output<K: Sink>(
-    out: &mut K,
-    buffer: &mut TextBuffer,
-    end: &End,
-) -> Result<(), SinkFault>
+fn put_output<K: Sink>(out: &mut K, buffer: &mut TextBuffer, end: &End) -> Result<(), SinkFault>
     ensures puts { Puts K.taken K.fault_count out.old out.new buffer.old buffer.new result (text_of end.now) }
     ensures empty { OnOk result (buffer.new ≡ []) }
 {

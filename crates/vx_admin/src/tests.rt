@@ -12,11 +12,7 @@ use vx_kernel::{Journal, format};
 const STOPPED: u64 = 75;
 
 /// A disk of zeros that fails these writes and barriers, and these reads.
-fn disk(
-    alloc: Global,
-    fail_writes: &[u64],
-    fail_reads: &[u64],
-) -> Result<MemDisk, AllocError>
+fn disk(alloc: Global, fail_writes: &[u64], fail_reads: &[u64]) -> Result<MemDisk, AllocError>
     ensures { IfOk result (λ disk. length disk.start ≡ 9220) }
 {
     let image = Image::zeroed(alloc, 9_220)?;
@@ -121,7 +117,11 @@ fn bad_images(rt: HostRuntime) -> Result<(), Fail> {
 #[test]
 fn bad_words(rt: HostRuntime) -> Result<(), Fail> {
     let mut zeros = disk(rt.alloc(), &[], &[])?;
-    let lists: [&[&str]; 3] = [&["fsck"], &["mkfs", "disk.img"], &["fsck", "disk.img", "-n"]];
+    let lists: [&[&str]; 3] = [
+        &["fsck"],
+        &["mkfs", "disk.img"],
+        &["fsck", "disk.img", "-n"],
+    ];
     for words in lists {
         let seen = check(rt.alloc(), words, 64, zeros)?;
         assert_eq!(rt; seen.status, 1);

@@ -25,7 +25,7 @@ starts_push tail [] r = let same : tail ≡ tail + 0 = omega arith in ap (λ (p 
 starts_push tail (q ∷ rs) r =
     let next : ℕ = tail + (1 + length q) in
     let place : next + length (log_sectors next rs) ≡ tail + length (log_sectors tail (q ∷ rs)) =
-        omega (arith, length-append (record_sectors tail q) (log_sectors next rs), length-images q) in
+    omega (arith, length-append (record_sectors tail q) (log_sectors next rs), length-images q) in
     ap (λ (l : List ℕ). tail ∷ l) (starts_push next rs r) ∙ ap (λ (p : ℕ). tail ∷ (starts_at next rs ++ p ∷ [])) place
 
 pub length-push : (tail : ℕ) (rs : List (List AfterImage)) (r : List AfterImage) → length (log_sectors tail (rs ++ r ∷ [])) ≡ length (log_sectors tail rs) + (1 + length r)
@@ -61,7 +61,7 @@ module _ (n size : ℕ) where
   are_after tail r (q ∷ rs) h =
       let next : ℕ = tail + (1 + length r) in
       let end : next + length (log_sectors next (q ∷ rs)) ≡ tail + length (log_sectors tail (r ∷ q ∷ rs)) =
-          omega (arith, length_counts tail (r ∷ q ∷ rs), length_counts next (q ∷ rs)) in
+      omega (arith, length_counts tail (r ∷ q ∷ rs), length_counts next (q ∷ rs)) in
       (omega (arith, h.0.some), subst (AreAfter next (starts_at (next + (1 + length q)) rs)) end (are_after next q rs h.1))
 
   pub are_starts : (tail : ℕ) (rs : List (List AfterImage)) → AllByRecursion (IsRecord n size) rs → AreStarts tail (starts_at tail rs) (tail + length (log_sectors tail rs))

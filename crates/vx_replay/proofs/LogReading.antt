@@ -80,7 +80,7 @@ stand_behind n image position (x ∷ xs) ys first second (suc i) lt =
     let same : position + 1 + i ≡ position + suc i = omega arith in
     let place : position + 1 + length xs ≡ position + length (x ∷ xs) = omega arith in
     let next : StandThere n image (position + 1) xs = λ k le. let e : position + suc k ≡ position + 1 + k = omega arith in
-        subst (λ (p : ℕ). image (log_at n p) ≡ get_or xs k []) e (first (suc k) (omega (arith, le))) in
+    subst (λ (p : ℕ). image (log_at n p) ≡ get_or xs k []) e (first (suc k) (omega (arith, le))) in
     subst (λ (p : ℕ). image (log_at n p) ≡ get_or (xs ++ ys) i []) same
     (stand_behind n image (position + 1) xs ys next (subst (λ (p : ℕ). StandThere n image p ys) (sym place) second) i (omega (arith, lt)))
 

@@ -42,8 +42,16 @@ module _ (laws : ReplayLaws) (sb : Super) (is_super : IsSuper sb) (tree : Tree) 
 
   begins : (t : Tape) → IsEmptied sb tree t → IsMarking t
   begins t k = record {
-    reading = k.reading; records = k.records; level = k.level; serial = k.serial; limit = k.limit; stands = k.stands; above = k.above; not_super = k.not_super;
-    superblock = λ x may. inl (k.superblock x may); reads = k.reads;
+    reading = k.reading;
+    records = k.records;
+    level = k.level;
+    serial = k.serial;
+    limit = k.limit;
+    stands = k.stands;
+    above = k.above;
+    not_super = k.not_super;
+    superblock = λ x may. inl (k.superblock x may);
+    reads = k.reads;
   }
 
   abbrev Good : (ℕ → List ℕ) → Type 0
@@ -67,19 +75,29 @@ module _ (laws : ReplayLaws) (sb : Super) (is_super : IsSuper sb) (tree : Tree) 
 
   after_write : (t : Tape) (op : Operation) → Writes op 0 clean_bytes → IsMarking t → IsMarking (did op t)
   after_write t op w k = record {
-    reading = k.reading; records = k.records; level = k.level; serial = k.serial; limit = k.limit;
+    reading = k.reading;
+    records = k.records;
+    level = k.level;
+    serial = k.serial;
+    limit = k.limit;
     stands = laws.written n k.reading t op 0 clean_bytes w
         (record { no_record = λ i lt same. absurd (omega (arith, lt, no_sectors k.reading k.records)); decided = λ there. absurd (let wrong : true ≡ false = sym there ∙ k.not_super in cc) }) (λ same. omega (arith, same)) k.stands;
-    above = k.above; not_super = k.not_super;
+    above = k.above;
+    not_super = k.not_super;
     superblock = λ x may. elim (w.may t 0 x may) [ inl before ↦ k.superblock x before | inr here ↦ inr here.1 ];
     reads = k.reads;
   }
 
   after_barrier : (t : Tape) → IsMarking t → IsMarking (did Barrier t)
   after_barrier t k = record {
-    reading = k.reading; records = k.records; level = k.level; serial = k.serial; limit = k.limit;
+    reading = k.reading;
+    records = k.records;
+    level = k.level;
+    serial = k.serial;
+    limit = k.limit;
     stands = laws.barrier n k.reading t k.stands;
-    above = k.above; not_super = k.not_super;
+    above = k.above;
+    not_super = k.not_super;
     superblock = λ x may. k.superblock x (laws.tape.barrier_adds t 0 x may);
     reads = k.reads;
   }

@@ -122,7 +122,16 @@ module _ (laws : ReplayLaws) (tree : Tree) (sb first : Super) (same_log : sb.log
   good r b image serial limit form above contents rd last v is_v first_is same =
       let vol : ℕ = sectors_of (volume_of sb) in
       let log : HasRecords (2 * first.log_blocks) vol image r.records = record {
-        serial = r.serial; tail = r.tail; head = r.head; serial_limit = serial; limit = limit; form = form; head_is = rd.head_is; ends = rd.ends; fits = rd.fits; whole = rd.whole;
+        serial = r.serial;
+        tail = r.tail;
+        head = r.head;
+        serial_limit = serial;
+        limit = limit;
+        form = form;
+        head_is = rd.head_is;
+        ends = rd.ends;
+        fits = rd.fits;
+        whole = rd.whole;
       } in
       record {
         first = v;

@@ -41,10 +41,10 @@ some_same a b e = cc
 pub passed_both : (Q R : (ℕ → List ℕ) → Type 0) (a b : Device) (t : Tape) → a.told ≡ Some t → Passed Q a b → Passed R a b → Passed (λ image. Q image × R image) a b
 passed_both Q R a b t is p q =
     let first : did_all p.ops t ≡ did_all q.ops t = some_same (did_all p.ops t) (did_all q.ops t)
-        (ap (option_map (did_all p.ops)) (sym is) ∙ sym p.told ∙ q.told ∙ ap (option_map (did_all q.ops)) is) in
+    (ap (option_map (did_all p.ops)) (sym is) ∙ sym p.told ∙ q.told ∙ ap (option_map (did_all q.ops)) is) in
     let one : Always (length t.ops) (λ _ image. Q image) (did_all p.ops t) = at_told a (λ u. Always (length u.ops) (λ _ image. Q image) (did_all p.ops u)) t is p.always in
     let other : Always (length t.ops) (λ _ image. R image) (did_all p.ops t) =
-        subst (Always (length t.ops) (λ _ image. R image)) (sym first) (at_told a (λ u. Always (length u.ops) (λ _ image. R image) (did_all q.ops u)) t is q.always) in
+    subst (Always (length t.ops) (λ _ image. R image)) (sym first) (at_told a (λ u. Always (length u.ops) (λ _ image. R image) (did_all q.ops u)) t is q.always) in
     record {
       ops = p.ops;
       told = p.told;
@@ -72,7 +72,7 @@ module _ (laws : ReplayLaws) (size : ℕ) (image : ℕ → List ℕ) (tree : Tre
       let count : length (log_sectors a.tail h.records) ≡ length (log_sectors read.ends.tail read.records) = omega (arith, a.ends, read.are.ends, ends.0, ends.1) in
       let n : ℕ = 2 * read.first.log_blocks in
       let same : log_sectors a.tail h.records ≡ log_sectors read.ends.tail read.records = ext_get_or [] (log_sectors a.tail h.records) (log_sectors read.ends.tail read.records) count
-          (λ i lt. sym (a.whole i lt) ∙ ap (λ (p : ℕ). image (log_at n (p + i))) ends.0 ∙ read.stand i (omega (arith, lt, count))) in
+      (λ i lt. sym (a.whole i lt) ∙ ap (λ (p : ℕ). image (log_at n (p + i))) ends.0 ∙ read.stand i (omega (arith, lt, count))) in
       laws.records n (sectors_of (volume_of h.superblock)) size a.tail h.records read.records a.form read.are.form (same ∙ sym (ap (λ (p : ℕ). log_sectors p read.records) ends.0))
 
   super_same : h.superblock ≡ s.superblock
@@ -222,7 +222,7 @@ module _ (laws : ReplayLaws) (d0 d1 : Device) (t : Tape) (tree : Tree) (s : Stop
         → ((q : ℕ) (xs : List (List ℕ)) → (q ≡ 2 → ⊥) → Told d2 (HoldsOneOf q xs) → Passed (λ other. Contains xs (other q)) d2 d3) → Passed Good d1 d3
     emptied_passed log_passed elsewhere =
         let both = passed_both (λ other. ReadsAs s.log.sectors r0 other ⊎ ReadsAs s.log.sectors (emptied r0) other) (λ other. Contains values (other 0)) d2 d3 (did_all (puts s.homes) t1) told2
-            (log_passed r0 reading homes_put) (elsewhere 0 values (λ e. omega (arith, e)) (valued d2 ran).0) in
+        (log_passed r0 reading homes_put) (elsewhere 0 values (λ e. omega (arith, e)) (valued d2 ran).0) in
         passed_join Good d1 d2 d3 (homes_passed d2 ran)
         (passed_weaker (λ other. (ReadsAs s.log.sectors r0 other ⊎ ReadsAs s.log.sectors (emptied r0) other) × Contains values (other 0)) Good d2 d3
         (λ other is. elim is.0 [
@@ -234,7 +234,7 @@ module _ (laws : ReplayLaws) (d0 d1 : Device) (t : Tape) (tree : Tree) (s : Stop
     emptied_left stands =
         told_weaker d3 (Stands s.log.sectors (emptied r0)) (IsEmptied s.superblock tree)
         (λ u st. level_left (emptied r0) u refl refl (omega arith) h.read.is_ends.limit (subst (λ (k : ℕ). Stands k (emptied r0) u) h.read.sectors st) (reread.above_home n) (λ q. refl)
-            (λ x may. st.holds.metadata 0 x refl may ∙ h.read.superblock_is))
+        (λ x may. st.holds.metadata 0 x refl may ∙ h.read.superblock_is))
         (stands r0 reading homes_put)
 
 -- ---- one stretch of moments behind another

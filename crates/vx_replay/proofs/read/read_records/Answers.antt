@@ -29,7 +29,6 @@ loop-position-preserved g c =
           (stand_push n d0.size (now t) c.args.ends.tail position rs r inv.are (inv.stand t shows) (c.in-Ok.ensures.stand t (still_shows d0 d1 t inv.read shows)));
     }
 
-
 pub returns-in-Err-clause-bad : goal.returns-in-Err-clause-bad
 returns-in-Err-clause-bad g c = λ t s shows is.
     let n = c.args.sectors in

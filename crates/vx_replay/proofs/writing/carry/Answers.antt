@@ -10,7 +10,7 @@ pub returns-clause-kept : goal.returns-clause-kept
 returns-clause-kept g c = λ t tree h.
     let d1 = g.D.BlockDev.state c.empty_log.new.dev in
     let emptied : Told d1 (IsEmptied c.empty_log.new.stopped.superblock tree) =
-        subst (λ (s : Super). Told d1 (IsEmptied s tree)) (sym c.empty_log.ensures.superblock) (c.in_ok-empty_log.ensures.emptied t tree h) in
+    subst (λ (s : Super). Told d1 (IsEmptied s tree)) (sym c.empty_log.ensures.superblock) (c.in_ok-empty_log.ensures.emptied t tree h) in
     told_then (length t.ops + 1) (λ (other : ℕ → List ℕ). ReplaysAs other tree) d1 (g.D.BlockDev.state c.mark_clean.new.dev) (c.empty_log.ensures.kept t tree h) (c.mark_clean.ensures.passed tree emptied)
 
 pub returns-clause-left : goal.returns-clause-left
