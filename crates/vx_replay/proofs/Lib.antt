@@ -5,3 +5,4 @@ pub mod Marks
 pub mod Loading
 pub mod BadReads
 pub mod Accepting
+pub mod Recovering

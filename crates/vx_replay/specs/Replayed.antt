@@ -1,23 +1,28 @@
 -- What a replay answers.
-use Rattle.std.specs.Prelude.{◌≡◌, ℕ, List, length, Result, Ok, Err}
+use Rattle.std.specs.Prelude.{◌≡◌, ◌<◌, ℕ, true, List, length, Result, Ok, Err}
 use Rattle.vx_base.specs.Faults.{Rose}
 use Rattle.vx_dev.specs.Tape.{State}
-use Rattle.vx_layout.specs.LogForms.{AfterImage}
+use Rattle.vx_layout.specs.LogForms.{AfterImage, overlay_all}
+use Rattle.vx_layout.specs.Supers.{IsSuper, super_bytes}
 use Rattle.vx_layout.specs.declared.superblock.Super.{Super}
 use Rattle.vx_replay.specs.BadImages.{HasLog, first_super}
 use Rattle.vx_replay.specs.LogReads.{IsRead, image_count}
 use Rattle.vx_replay.specs.declared.refusal.ReplayRefusal.{ReplayRefusal}
 use Rattle.vx_replay.specs.declared.refusal.ReplayRefusal.TheVariants as no
-use Rattle.vx_replay.specs.declared.top.Replayed.{Replayed}
 
--- so many records and after-images stand in the image's log
-pub record IsCounted (size : ℕ) (image : ℕ → List ℕ) (r : Replayed) : Type 0 where
+-- So many records and after-images stand in the image's log, and the image needs a replay: the superblock that the records leave
+-- is not marked clean, or there are records.
+pub record IsCounted (size : ℕ) (image : ℕ → List ℕ) (records sectors : ℕ) : Type 0 where
   pub first : Super
   pub first_is : first_super size image ≡ Ok first
-  pub records : List (List AfterImage)
-  pub log : HasLog size image first records
-  pub records_are : r.records ≡ length records
-  pub sectors_are : r.sectors ≡ image_count records
+  pub held : List (List AfterImage)
+  pub log : HasLog size image first held
+  pub records_are : records ≡ length held
+  pub sectors_are : sectors ≡ image_count held
+  pub last : Super
+  pub is_last : IsSuper last
+  pub last_is : overlay_all held 0 (image 0) ≡ super_bytes last
+  pub needed : last.clean ≡ true → 0 < length held
 
 -- a fault is answered only where its count rose, and but for a write fault nothing was written
 abbrev pub Cause : State → State → ReplayRefusal → Type 0

@@ -10,4 +10,7 @@ mod writing;
 
 pub use laws::never_refused;
 pub use refusal::ReplayRefusal;
-pub use top::{Replayed, replay};
+pub use top::{Recovered, replay};
+
+#[cfg(test)]
+mod tests;

@@ -1,49 +1,66 @@
 //! The whole replay of an image.
-ghost use Rattle.std.specs.Prelude.{◌≡◌, ◌+◌, ℕ, IfOk, OnOk, Err, length};
+ghost use Rattle.std.specs.Prelude.{◌≡◌, ◌+◌, ◌==◌, ◌&&◌, ℕ, Ok, Err, length};
 ghost use Rattle.vx_dev.specs.Tape.{Tape, now};
 ghost use Rattle.vx_log.specs.Moments.{Told, Always};
-ghost use Rattle.vx_model.specs.Replays.{ReplaysAs, IsLeft};
+ghost use Rattle.vx_model.specs.Replays.{ReplaysAs, IsClean, IsLeft};
 ghost use Rattle.vx_model.specs.Tree.{Tree};
 ghost use Rattle.vx_replay.specs.BadImages.{IsBadSuper, IsBadLog};
-ghost use Rattle.vx_replay.specs.LogReads.{Shows};
+ghost use Rattle.vx_replay.specs.LogReads.{Shows, IsRead};
 ghost use Rattle.vx_replay.specs.Replayed.{IsCounted, IsReplayRefusal};
 
-use crate::load::load;
+use crate::load::{Stopped, load};
 use crate::refusal::ReplayRefusal;
 use crate::writing::carry;
 use std::alloc::Global;
 use vx_dev::{BlockDev, DevFault};
+use vx_layout::{log_spelling, super_spelling};
 
-/// What the log held that a replay carried home.
+/// What a check of an image came to.
 #[derive(Clone, Copy, Debug, PartialEq, Eq)]
-pub struct Replayed {
-    /// The records between the log's tail and head.
-    pub records: u32,
-    /// The after-images that they have.
-    pub sectors: u32,
+pub enum Recovered {
+    /// The image was left clean, and its log holds nothing.
+    Clean,
+    /// So many records, with so many after-images, stood between the log's tail and head, and were carried home.
+    Replayed { records: u32, sectors: u32 },
 }
 
-/// Replays the log of a stopped image and leaves the image clean. A refusal but for a write fault comes before anything is written.
-pub fn replay<D: BlockDev>(alloc: Global, dev: &mut D) -> Result<Replayed, ReplayRefusal>
+/// Replays the log of a stopped image and leaves the image clean; of an image that was left clean it only reads. A refusal but
+/// for a write fault comes before anything is written.
+pub fn replay<D: BlockDev>(alloc: Global, dev: &mut D) -> Result<Recovered, ReplayRefusal>
     // From the first barrier on every image that a crash leaves replays as the tree as which the image replayed before.
     ensures kept { (t : Tape) (tree : Tree) → Shows (D.state dev.old) t → ReplaysAs (now t) tree → Told (D.state dev.new) (Always (length t.ops + 1) (λ _ image. ReplaysAs image tree)) }
-    // At the end there is one image, it is clean, and it reads as that tree.
-    ensures left { (t : Tape) (tree : Tree) → Shows (D.state dev.old) t → ReplaysAs (now t) tree → OnOk result (Told (D.state dev.new) (IsLeft tree)) }
-    ensures counted { (t : Tape) → Shows (D.state dev.old) t → IfOk result (IsCounted (D.state dev.old).size (now t)) }
+    // After a replay there is one image, it is clean, and it reads as that tree.
+    ensures left { (t : Tape) (tree : Tree) (records sectors : ℕ) → Shows (D.state dev.old) t → ReplaysAs (now t) tree → result ≡ Ok (Recovered.Replayed records sectors) → Told (D.state dev.new) (IsLeft tree) }
+    ensures counted { (t : Tape) (records sectors : ℕ) → Shows (D.state dev.old) t → result ≡ Ok (Recovered.Replayed records sectors) → IsCounted (D.state dev.old).size (now t) records sectors }
+    ensures clean { (t : Tape) (tree : Tree) → Shows (D.state dev.old) t → ReplaysAs (now t) tree → result ≡ Ok Recovered.Clean → IsClean (now t) tree }
+    ensures unwritten { result ≡ Ok Recovered.Clean → IsRead (D.state dev.old) (D.state dev.new) }
     ensures bad_super { (t : Tape) (field : ℕ) → Shows (D.state dev.old) t → result ≡ Err (ReplayRefusal.BadSuper field) → IsBadSuper (D.state dev.old).size (now t) field }
     ensures bad_log { (t : Tape) (sector : ℕ) → Shows (D.state dev.old) t → result ≡ Err (ReplayRefusal.BadLog sector) → IsBadLog (D.state dev.old).size (now t) sector }
     ensures refused { IsReplayRefusal (D.state dev.old) (D.state dev.new) result }
 {
+    // The proof rests on these laws; nothing runs here.
+    super_spelling();
+    log_spelling();
     let mut stopped = match load(alloc, dev) {
         Ok(stopped) => stopped,
         Err(why) => return Err(why),
     };
-    let replayed = Replayed {
+    if is_clean(&stopped) {
+        return Ok(Recovered::Clean);
+    }
+    let recovered = Recovered::Replayed {
         records: stopped.descriptors,
         sectors: stopped.images,
     };
     match carry(dev, &mut stopped) {
-        Ok(()) => Ok(replayed),
+        Ok(()) => Ok(recovered),
         Err(DevFault) => Err(ReplayRefusal::WriteFault),
     }
+}
+
+/// Whether the image was left clean, and its log holds nothing.
+fn is_clean(stopped: &Stopped) -> bool
+    ensures { result ≡ (stopped.now.superblock.clean && (stopped.now.log.tail == stopped.now.log.head)) }
+{
+    stopped.superblock.clean && stopped.log.tail() == stopped.log.head()
 }

@@ -2,5 +2,5 @@ mod CallLaws
 mod Joins
 mod ScriptLaws
 mod Splits
-mod Pieces
+pub mod Pieces
 mod OutputLaws

@@ -1,0 +1,82 @@
+-- How a check ends, and why.
+use Rattle.std.specs.Prelude.{◌≡◌, ◌+◌, ℕ, Bool, true, false, not, List, length, Option}
+use Rattle.std.specs.Io.KnownBytes.{Appends}
+use Rattle.vx_admin.specs.declared.end.End.{End}
+use Rattle.vx_admin.specs.declared.end.End.TheVariants.{Done, BadWords, Refused}
+use Rattle.vx_admin.specs.Output.{status_at, text_of}
+use Rattle.vx_admin.specs.Words.{are_words}
+use Rattle.vx_base.specs.Faults.{Rose}
+use Rattle.vx_dev.specs.Tape.{State, Tape, now}
+use Rattle.vx_log.specs.Moments.{Told, Always}
+use Rattle.vx_model.specs.Replays.{ReplaysAs, IsClean, IsLeft}
+use Rattle.vx_model.specs.Tree.{Tree}
+use Rattle.vx_replay.specs.BadImages.{IsBadSuper, IsBadLog}
+use Rattle.vx_replay.specs.LogReads.{Shows, IsRead}
+use Rattle.vx_replay.specs.Replayed.{IsCounted}
+use Rattle.vx_replay.specs.declared.refusal.ReplayRefusal.TheVariants as no
+use Rattle.vx_replay.specs.declared.top.Recovered.TheVariants.{Clean, Replayed}
+use Rattle.vx_script.specs.Puts.{AppendsPrefix}
+
+-- the image was only read, and it is clean
+pub record IsFoundClean (old new : State) : Type 0 where
+  pub read : IsRead old new
+  pub clean : (t : Tape) (tree : Tree) → Shows old t → ReplaysAs (now t) tree → IsClean (now t) tree
+
+-- So many records and sectors of the log were carried home, and no write failed. A crash leaves one image then: it is clean, and
+-- it reads as the tree as which the image replayed before.
+pub record IsCarried (old new : State) (records sectors : ℕ) : Type 0 where
+  pub fine : new.write_faults ≡ old.write_faults
+  pub counted : (t : Tape) → Shows old t → IsCounted old.size (now t) records sectors
+  pub left : (t : Tape) (tree : Tree) → Shows old t → ReplaysAs (now t) tree → Told new (IsLeft tree)
+
+-- the image was only read, and its superblock has a bad field
+pub record IsRefusedSuper (old new : State) (field : ℕ) : Type 0 where
+  pub read : IsRead old new
+  pub why : (t : Tape) → Shows old t → IsBadSuper old.size (now t) field
+
+-- the image was only read, and its log is bad at a sector
+pub record IsRefusedLog (old new : State) (sector : ℕ) : Type 0 where
+  pub read : IsRead old new
+  pub why : (t : Tape) → Shows old t → IsBadLog old.size (now t) sector
+
+-- what each end says of the device before and after
+abbrev pub HasCause : State → State → End → Type 0
+HasCause old new (Done Clean) = IsFoundClean old new
+HasCause old new (Done (Replayed records sectors)) = IsCarried old new records sectors
+HasCause old new BadWords = new ≡ old
+HasCause old new (Refused (no.BadSuper field)) = IsRefusedSuper old new field
+HasCause old new (Refused (no.BadLog sector)) = IsRefusedLog old new sector
+HasCause old new (Refused no.ReadFault) = IsRead old new × Rose old.read_faults new.read_faults
+HasCause old new (Refused no.WriteFault) = Rose old.write_faults new.write_faults
+HasCause old new (Refused no.NoMemory) = IsRead old new
+
+abbrev pub is_bad_words : End → Bool
+is_bad_words BadWords = true
+is_bad_words _ = false
+
+-- The words decide whether the image is looked at. However it ends, from the first barrier on every image that a crash leaves
+-- replays as the tree as which the image replayed before.
+pub record HasEnded (words : List (List ℕ)) (old new : State) (end : End) : Type 0 where
+  pub words_are : are_words words ≡ not (is_bad_words end)
+  pub kept : (t : Tape) (tree : Tree) → Shows old t → ReplaysAs (now t) tree → Told new (Always (length t.ops + 1) (λ _ image. ReplaysAs image tree))
+  pub cause : HasCause old new end
+
+-- what a sink took before and after, and its faults
+pub record Taking : Type 0 where
+  pub before : Option (List ℕ)
+  pub now : Option (List ℕ)
+  pub faults_before : ℕ
+  pub faults : ℕ
+
+-- all of the text was taken, without a fault, or a first part of it and then a fault
+abbrev pub Takes : Taking → List ℕ → Bool → Type 0
+Takes t text true = Appends t.before t.now text × (t.faults ≡ t.faults_before)
+Takes t text false = AppendsPrefix t.before t.now text × Rose t.faults_before t.faults
+
+-- what is known of every check
+pub record IsAdministered (words : List (List ℕ)) (old new : State) (t : Taking) (status : ℕ) : Type 0 where
+  pub end : End
+  pub written : Bool
+  pub ended : HasEnded words old new end
+  pub output : Takes t (text_of end) written
+  pub status_is : status ≡ status_at end written

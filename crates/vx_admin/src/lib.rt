@@ -1,0 +1,12 @@
+//! The check of an image, from its words to the line that is printed.
+#![tactic(auto)]
+
+mod end;
+mod output;
+mod top;
+mod words;
+
+pub use top::{AdminDone, admin};
+
+#[cfg(test)]
+mod tests;
