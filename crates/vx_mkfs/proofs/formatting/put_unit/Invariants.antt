@@ -8,9 +8,9 @@ use Rattle.vx_mkfs.proofs.formatting.put_unit.Given as goal
 
 abbrev pub invariant-loop-i : goal.invariant-loop-i
 invariant-loop-i g l = record {
-  start : l.start ≡ bitmap_sector (volume_of l.initial.superblock.now) l.initial.u;
+  start : l.start ≡ bitmap_sector (volume_of l.initial.superblock) l.initial.u;
   limit : l.i ≤ 66;
-  within : Told (g.D.BlockDev.state l.dev) (IsWithin (volume_of l.initial.superblock.now) l.initial.u l.i);
+  within : Told (g.D.BlockDev.state l.dev) (IsWithin (volume_of l.initial.superblock) l.initial.u l.i);
   onward : Onward (g.D.BlockDev.state l.initial.dev) (g.D.BlockDev.state l.dev);
   count : (g.D.BlockDev.state l.dev).count ≡ (g.D.BlockDev.state l.initial.dev).count + l.i;
   fine : (g.D.BlockDev.state l.dev).write_faults ≡ (g.D.BlockDev.state l.initial.dev).write_faults;
