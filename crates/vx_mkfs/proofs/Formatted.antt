@@ -1,5 +1,5 @@
 -- What a device would hold after a barrier, as it is formatted.
-use Rattle.std.proofs.Common.{◌≡◌, ◌≢◌, ◌⊎◌, ℕ, ◌+◌, ◌*◌, ◌<◌, ◌≤◌, List, Option, Some, None, refl, sym, subst, arith, inl, inr, true}
+use Rattle.std.proofs.Common.{◌≡◌, ◌≢◌, ◌⊎◌, ℕ, ◌+◌, ◌<◌, List, Option, Some, None, refl, sym, subst, arith, inl, inr, true}
 use Rattle.std.specs.Prelude.{IfSome, option_map, Result, Ok, Err, OnOk}
 use Rattle.std.proofs.lemmas.Bool.{cases_eq}
 use Rattle.vx_dev.specs.declared.device.Operation.{Operation}
@@ -108,6 +108,12 @@ module _ (laws : TapeLaws) (s : Super) where
     laws.put_settles t 0 (super_bytes s),
   )
 
+  pub sized : (settled super new : State) → Did (Put 0 (super_bytes s)) settled super → Did Barrier super new → Told new (λ t. now t 0 ≡ super_bytes s)
+  sized settled super new third last =
+      let Q : Tape → Type 0 = λ t. Settles t 0 (super_bytes s) in
+      told_more Barrier super new Q (λ t. now t 0 ≡ super_bytes s) last (λ t h. h (now (did Barrier t) 0) (laws.now_may (did Barrier t) 0))
+      (told_more (Put 0 (super_bytes s)) settled super (λ t. t ≡ t) Q third (λ t _. laws.put_settles t 0 (super_bytes s)) (always settled.told (λ t. t ≡ t) (λ t. refl)))
+
   module _ (is : IsSuper s) (clean : s.clean ≡ true)
       (reads : (image : ℕ → List ℕ) → IsFormattedVolume v image → ImageReadsAs v image empty_root) where
     pass_all : (t : Tape) → HasAll t → IsLeft empty_root (did Barrier t)
@@ -122,7 +128,7 @@ module _ (laws : TapeLaws) (s : Super) where
         tail = 0;
         head_is = h.0.1 (now (did Barrier t) 2) (laws.now_may (did Barrier t) 2);
         reads = reads (now (did Barrier t))
-          (λ u i lt below. h.0.0 u lt i below (now (did Barrier t) (bitmap_sector v u + i)) (laws.now_may (did Barrier t) (bitmap_sector v u + i)));
+            (λ u i lt below. h.0.0 u lt i below (now (did Barrier t) (bitmap_sector v u + i)) (laws.now_may (did Barrier t) (bitmap_sector v u + i)));
       };
     }
 

@@ -1,10 +1,11 @@
 -- A device as formatting leaves it.
 use Rattle.std.specs.Prelude.{◌≡◌, ◌+◌, ◌<◌, ◌≤◌, ◌==◌, ◌&&◌, nat_lt, ℕ, true, List, ◌++◌, replicate, Some, None, if◌then◌else◌}
-use Rattle.vx_dev.specs.Tape.{State, Tape, Settles}
+use Rattle.vx_dev.specs.Tape.{State, Tape, now, Settles}
 use Rattle.vx_layout.specs.declared.superblock.Super.{Super}
 use Rattle.vx_layout.specs.Bits.{bits_bytes}
 use Rattle.vx_layout.specs.Inodes.{slot_bytes}
 use Rattle.vx_layout.specs.Places.{Volume, bitmap_sector}
+use Rattle.vx_layout.specs.Supers.{super_bytes}
 use Rattle.vx_model.specs.Contents.{fresh_root}
 
 -- operations may have been added; nothing else but the count of failed writes has changed
@@ -17,6 +18,10 @@ pub record Onward (old new : State) : Type 0 where
 -- the superblock of a file system of these sizes that was left clean
 abbrev pub clean_super : ℕ → ℕ → Super
 clean_super log_blocks units = record { log_blocks = log_blocks; units = units; clean = true }
+
+-- the superblock says these sizes
+abbrev pub IsOfSizes : ℕ → ℕ → Tape → Type 0
+IsOfSizes log_blocks units t = now t 0 ≡ super_bytes (clean_super log_blocks units)
 
 -- the bitmap of a new unit: its own block and those of the inodes are in use
 abbrev pub new_bitmap : List ℕ

@@ -7,7 +7,7 @@ ghost use Rattle.vx_log.specs.Moments.{Told};
 ghost use Rattle.vx_model.specs.Contents.{fresh_root};
 ghost use Rattle.vx_model.specs.Replays.{IsLeft};
 ghost use Rattle.vx_model.specs.Tree.{empty_root};
-ghost use Rattle.vx_mkfs.specs.Formats.{Onward, HasUnits, clean_super, new_bitmap, unit_bytes};
+ghost use Rattle.vx_mkfs.specs.Formats.{Onward, HasUnits, IsOfSizes, clean_super, new_bitmap, unit_bytes};
 
 use crate::device::{pass, put};
 use crate::laws::formatted_reads;
@@ -124,6 +124,7 @@ pub fn make<D: BlockDev>(dev: &mut D, log_blocks: u32, units: u32) -> Result<(),
     requires is { IsSuper (clean_super log_blocks units) }
     requires size { sectors_of (volume_of (clean_super log_blocks units)) ≤ (D.state dev.old).size }
     ensures left { OnOk result (Told (D.state dev.new) (IsLeft empty_root)) }
+    ensures sizes { OnOk result (Told (D.state dev.new) (IsOfSizes log_blocks units)) }
     ensures onward { Onward (D.state dev.old) (D.state dev.new) }
     ensures count { OnOk result ((D.state dev.new).count ≡ (D.state dev.old).count + (66 * units + 4)) }
     ensures fewer { OnErr result ((D.state dev.new).count < (D.state dev.old).count + (66 * units + 4)) }

@@ -1,4 +1,4 @@
-use Rattle.std.proofs.Common.{◌≡◌, ◌+◌, ◌*◌, ◌≤◌}
+use Rattle.std.proofs.Common.{◌≡◌, ◌+◌, ◌*◌}
 use Rattle.vx_layout.specs.Supers.{volume_of}
 use Rattle.vx_log.specs.Moments.{Told}
 use Rattle.vx_mkfs.specs.Formats.{Onward, HasUnits}
