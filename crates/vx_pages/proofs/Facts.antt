@@ -1,11 +1,12 @@
 -- What always holds of the pages that the slots list.
-use Rattle.std.proofs.Common.{◌≡◌, ◌≤◌, ℕ, true, false, cond, nat_eq, [], ◌∷◌, length, Option, Some, None, refl, arith}
+use Rattle.std.proofs.Common.{◌≡◌, ◌≤◌, ℕ, true, false, cond, nat_eq, List, [], ◌∷◌, length, Option, Some, None, refl, arith}
 use Rattle.std.specs.List.{AllByRecursion, IsDistinct}
 use Rattle.std.specs.Map.{keys_of}
 use Rattle.vx_pages.specs.Pages.{Entry, is_page, IsOnce, IsCache}
+use Rattle.vx_pages.specs.Indexes.{Tie, slot_at}
 use Rattle.vx_pages.specs.Slots.{Slots, listed, names, IsSlotOf, IsSlot, IsKept}
 
-listed_fewer : (ss : Slots) → length (listed ss) ≤ length ss
+pub listed_fewer : (ss : Slots) → length (listed ss) ≤ length ss
 listed_fewer [] = omega arith
 listed_fewer (s ∷ ss) = grind (arith, listed_fewer ss)
 
@@ -23,7 +24,7 @@ nowhere ino page (s ∷ ss) h = (elim s.1.used as (λ u. s.1.used ≡ u → AllB
   | false ↦ λ is. nowhere ino page ss h.1
 ]) refl
 
-other_slots : (ino page n : ℕ) (o : Option ℕ) (ss : Slots) → names o n ≡ true → AllByRecursion (λ m. nat_eq n m ≡ false) (keys_of ss) → IsSlotOf ino page o ss → IsSlotOf ino page None ss
+pub other_slots : (ino page n : ℕ) (o : Option ℕ) (ss : Slots) → names o n ≡ true → AllByRecursion (λ m. nat_eq n m ≡ false) (keys_of ss) → IsSlotOf ino page o ss → IsSlotOf ino page None ss
 other_slots ino page n o [] is apart h = tt
 other_slots ino page n None (s ∷ ss) is apart h = h
 other_slots ino page n (Some k) (s ∷ ss) is apart h = (grind (arith, is, apart.0, h.0), other_slots ino page n (Some k) ss is apart.1 h.1)
@@ -42,9 +43,9 @@ all_once (s ∷ ss) d tied =
       | false ↦ λ is. rest
     ]) refl
 
-pub is_cache : (block : ℕ) (ss : Slots) → IsDistinct nat_eq (keys_of ss) → IsKept block ss → IsCache (record { block = block; entries = listed ss })
-is_cache block ss d kept = record {
+pub is_cache : {index : List Tie} (block : ℕ) (ss : Slots) → IsDistinct nat_eq (keys_of ss) → IsKept block ss index → IsCache (record { block = block; entries = listed ss })
+is_cache {index} block ss d kept = record {
   few = omega (arith, listed_fewer ss, kept.count);
   sizes = all_sizes block ss kept.each;
-  once = all_once ss d kept.tied;
+  once = all_once ss d (λ ino page. (slot_at ino page index, kept.tied.each ino page));
 }

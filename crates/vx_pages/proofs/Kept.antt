@@ -1,12 +1,13 @@
 -- Slots stay as they must be.
-use Rattle.std.proofs.Common.{◌≡◌, ◌+◌, ◌-◌, ◌<◌, ◌≤◌, ℕ, zero, suc, take, is_some, Bool, true, false, ◌&&◌, ◌==◌, cond, nat_eq, nat_le, List, [], ◌∷◌, length, Option, Some, None, refl, sym, ap, ◌∙◌, subst, arith}
+use Rattle.std.proofs.Common.{◌≡◌, ◌+◌, ◌-◌, ◌<◌, ◌≤◌, ℕ, zero, suc, take, is_some, Bool, true, false, ◌&&◌, ◌==◌, cond, nat_eq, List, [], ◌∷◌, length, Option, Some, None, refl, sym, ap, ◌∙◌, subst, arith}
 use Rattle.std.specs.List.{AllByRecursion, IsDistinct}
 use Rattle.std.specs.Option.{option_map_or}
 use Rattle.std.specs.Map.{keys_of, lookup, lookup_entry, remove_entry, set_value}
 use Rattle.std.proofs.lemmas.Grind.{common_steps}
 use Rattle.lru.specs.LruCache.{LruCache, promoted, put_entries}
 use Rattle.vx_pages.specs.Pages.{overwritten, written, cleaned}
-use Rattle.vx_pages.specs.Slots.{Slot, Slots, holds, freed, names, IsSlotOf, IsSlot, freed_below, IsKept}
+use Rattle.vx_pages.specs.Indexes.{Tie, slot_at, Enters}
+use Rattle.vx_pages.specs.Slots.{Slot, Slots, listed, holds, names, IsSlotOf, IsSlot, IsThere, but, IsKept}
 
 module _ (test : ℕ → Bool) where
   pub length_set : (ss : Slots) (w : Slot) → length (set_value test ss w) ≡ length ss
@@ -51,6 +52,49 @@ module _ (test : ℕ → Bool) where
     | Some e ↦ λ f. omega (arith, length_removed ss e f)
   ]) refl
 
+module _ (test : ℕ → Bool) where
+  -- ---- which numbers are there, and how many pages
+
+  found_set : (k : ℕ) (ss : Slots) (w : Slot) → is_some (lookup (nat_eq k) (set_value test ss w)) ≡ is_some (lookup (nat_eq k) ss)
+  found_set k [] w = refl
+  found_set k (t ∷ ss) w = grind (arith, found_set k ss w)
+
+  found_moved : (k : ℕ) (ss : Slots) (e : ℕ × Slot) → lookup_entry test ss ≡ Some e → is_some (lookup (nat_eq k) (e ∷ remove_entry test ss)) ≡ is_some (lookup (nat_eq k) ss)
+  found_moved k [] e found = absurd (let no : None ≡ Some e = found in cc)
+  found_moved k (t ∷ ss) e found = grind (arith, found, found_moved k ss e)
+
+  found_promoted : (k : ℕ) (ss : Slots) → is_some (lookup (nat_eq k) (promoted test ss)) ≡ is_some (lookup (nat_eq k) ss)
+  found_promoted k ss = (elim (lookup_entry test ss) as (λ o. lookup_entry test ss ≡ o → is_some (lookup (nat_eq k) (option_map_or (λ e. e ∷ remove_entry test ss) o ss)) ≡ is_some (lookup (nat_eq k) ss)) [
+    | None ↦ λ f. refl
+    | Some e ↦ λ f. found_moved k ss e f
+  ]) refl
+
+  pub there_set : (o : Option ℕ) (ss : Slots) (w : Slot) → IsThere o ss → IsThere o (set_value test ss w)
+  there_set None ss w h = tt
+  there_set (Some k) ss w h = found_set k ss w ∙ h
+
+  pub there_moved : (o : Option ℕ) (ss : Slots) (e : ℕ × Slot) → lookup_entry test ss ≡ Some e → IsThere o ss → IsThere o (e ∷ remove_entry test ss)
+  there_moved None ss e found h = tt
+  there_moved (Some k) ss e found h = found_moved k ss e found ∙ h
+
+  pub there_promoted : (o : Option ℕ) (ss : Slots) → IsThere o ss → IsThere o (promoted test ss)
+  there_promoted None ss h = tt
+  there_promoted (Some k) ss h = found_promoted k ss ∙ h
+
+  pub listed_set : (ss : Slots) (s w : Slot) → lookup test ss ≡ Some s → w.used ≡ s.used → length (listed (set_value test ss w)) ≡ length (listed ss)
+  listed_set [] s w found same = refl
+  listed_set (t ∷ ss) s w found same = grind (arith, found, same, listed_set ss s w)
+
+  pub listed_moved : (ss : Slots) (e : ℕ × Slot) → lookup_entry test ss ≡ Some e → length (listed (e ∷ remove_entry test ss)) ≡ length (listed ss)
+  listed_moved [] e found = absurd (let no : None ≡ Some e = found in cc)
+  listed_moved (t ∷ ss) e found = grind (arith, found, listed_moved ss e)
+
+  pub listed_promoted : (ss : Slots) → length (listed (promoted test ss)) ≡ length (listed ss)
+  listed_promoted ss = (elim (lookup_entry test ss) as (λ o. lookup_entry test ss ≡ o → length (listed (option_map_or (λ e. e ∷ remove_entry test ss) o ss)) ≡ length (listed ss)) [
+    | None ↦ λ f. refl
+    | Some e ↦ λ f. listed_moved ss e f
+  ]) refl
+
 -- the same page, or none, with as many bytes
 pub record SamePlace (s w : Slot) : Type 0 where
   pub used : w.used ≡ s.used
@@ -58,18 +102,26 @@ pub record SamePlace (s w : Slot) : Type 0 where
   pub page : w.entry.page ≡ s.entry.page
   pub size : length w.entry.bytes ≡ length s.entry.bytes
 
-pub kept_promoted : (block : ℕ) (test : ℕ → Bool) (ss : Slots) → IsKept block ss → IsKept block (promoted test ss)
-kept_promoted block test ss kept = record {
+pub kept_promoted : {index : List Tie} (block : ℕ) (test : ℕ → Bool) (ss : Slots) → IsKept block ss index → IsKept block (promoted test ss) index
+kept_promoted {index} block test ss kept = record {
   count = length_promoted test ss ∙ kept.count;
   each = all_promoted test (IsSlot block) ss kept.each;
-  tied = λ ino page. let t = kept.tied ino page in (t.0, all_promoted test _ ss t.1);
+  tied = record {
+    each = λ ino page. all_promoted test _ ss (kept.tied.each ino page);
+    there = λ ino page. there_promoted test (slot_at ino page index) ss (kept.tied.there ino page);
+  };
+  few = omega (arith, kept.few, listed_promoted test ss);
 }
 
-pub kept_set : (block : ℕ) (test : ℕ → Bool) (ss : Slots) (s w : Slot) → lookup test ss ≡ Some s → SamePlace s w → IsKept block ss → IsKept block (set_value test ss w)
-kept_set block test ss s w found same kept = record {
+pub kept_set : {index : List Tie} (block : ℕ) (test : ℕ → Bool) (ss : Slots) (s w : Slot) → lookup test ss ≡ Some s → SamePlace s w → IsKept block ss index → IsKept block (set_value test ss w) index
+kept_set {index} block test ss s w found same kept = record {
   count = length_set test ss w ∙ kept.count;
   each = all_set test (IsSlot block) ss s w found (λ n h. (h.0, same.size ∙ h.1)) kept.each;
-  tied = λ ino page. let t = kept.tied ino page in (t.0, all_set test _ ss s w found (λ n h. rw (same.used, same.ino, same.page) h) t.1);
+  tied = record {
+    each = λ ino page. all_set test _ ss s w found (λ n h. rw (same.used, same.ino, same.page) h) (kept.tied.each ino page);
+    there = λ ino page. there_set test (slot_at ino page index) ss w (kept.tied.there ino page);
+  };
+  few = omega (arith, kept.few, listed_set test ss s w found same.used);
 }
 
 -- ---- a new page
@@ -89,11 +141,6 @@ others k (s ∷ ss) d = (elim (nat_eq k s.0) as (λ b. nat_eq k s.0 ≡ b → Al
     apart [] h = tt
     apart (t ∷ ts) h = (h.0, apart ts h.1)
 
--- the number, if it is another one
-abbrev but : ℕ → Option ℕ → Option ℕ
-but k None = None
-but k (Some n) = cond (nat_eq n k) None (Some n)
-
 module _ (block ino page k : ℕ) (w : Slot) where
   with_first : (o : Option ℕ) (i q : ℕ) (ss : Slots) → AllByRecursion (λ (s : ℕ × Slot). nat_eq k s.0 ≡ false) ss → IsSlotOf i q o ss → IsSlotOf i q (but k o) ss
   with_first o i q [] apart h = tt
@@ -104,59 +151,70 @@ module _ (block ino page k : ℕ) (w : Slot) where
   as_new [] apart h = tt
   as_new (s ∷ ss) apart h = (apart.0 ∙ h.0, as_new ss apart.1 h.1)
 
-  pub kept_filled : (ss : Slots) (e : ℕ × Slot) → lookup_entry (nat_eq k) ss ≡ Some e → IsDistinct nat_eq (keys_of ss) → IsSlotOf ino page None ss → k < 1024
-      → w.used ≡ true → w.entry.ino ≡ ino → w.entry.page ≡ page → length w.entry.bytes ≡ block → IsKept block ss → IsKept block ((k, w) ∷ remove_entry (nat_eq k) ss)
-  kept_filled ss e found distinct absent less used at_ino at_page size kept =
+  there_but : (o : Option ℕ) (ts : Slots) → IsThere o ts → IsThere (but k o) ts
+  there_but None ts h = tt
+  there_but (Some n) ts h = (elim (nat_eq n k) as (λ b. IsThere (cond b None (Some n)) ts) [
+    | true ↦ tt
+    | false ↦ h
+  ])
+
+  -- the slot k is there whatever stands in it
+  there_filled : (o : Option ℕ) (x : Slot) (ts : Slots) → IsThere o ((k, x) ∷ ts) → IsThere o ((k, w) ∷ ts)
+  there_filled None x ts h = tt
+  there_filled (Some n) x ts h = (elim (nat_eq n k) as (λ b. is_some (cond b (Some x) (lookup (nat_eq n) ts)) ≡ true → is_some (cond b (Some w) (lookup (nat_eq n) ts)) ≡ true) [
+    | true ↦ λ i. refl
+    | false ↦ λ i. i
+  ]) h
+
+  pub kept_filled : (index left new_index : List Tie) (ss : Slots) (e : ℕ × Slot) → lookup_entry (nat_eq k) ss ≡ Some e → IsDistinct nat_eq (keys_of ss) → IsSlotOf ino page None ss → k < 1024
+      → w.used ≡ true → w.entry.ino ≡ ino → w.entry.page ≡ page → length w.entry.bytes ≡ block → e.0 ≡ k
+      → ((i q : ℕ) → slot_at i q left ≡ but k (slot_at i q index)) → length left ≤ length (listed (remove_entry (nat_eq k) ss)) → Enters ino page k left new_index → length new_index ≡ length left + 1
+      → IsKept block ss index → IsKept block ((k, w) ∷ remove_entry (nat_eq k) ss) new_index
+  kept_filled index left new_index ss e found distinct absent less used at_ino at_page size key leaves few enters more kept =
       let apart = others k ss distinct in
+      let ts = remove_entry (nat_eq k) ss in
+      let now : (i q : ℕ) → slot_at i q new_index ≡ cond ((ino == i) && (page == q)) (Some k) (but k (slot_at i q index)) = (λ i q. enters i q ∙ ap (cond ((ino == i) && (page == q)) (Some k)) (leaves i q)) in
       record {
         count = omega (arith, length_removed (nat_eq k) ss e found, kept.count);
         each = ((less, size), all_removed (nat_eq k) (IsSlot block) ss kept.each);
-        tied = λ i q. (elim ((ino == i) && (page == q)) as (λ b. ((ino == i) && (page == q)) ≡ b → (o : Option ℕ) × IsSlotOf i q o ((k, w) ∷ remove_entry (nat_eq k) ss)) [
-          | true ↦ λ is.
-              let same_ino : ino ≡ i = grind (arith, is) in
-              let same_page : page ≡ q = grind (arith, is) in (
-                Some k,
-                (
-                  grind (arith, used, at_ino, at_page, is),
-                  subst (λ x. IsSlotOf x q (Some k) (remove_entry (nat_eq k) ss)) same_ino (subst (λ x. IsSlotOf ino x (Some k) (remove_entry (nat_eq k) ss)) same_page
-                      (as_new (remove_entry (nat_eq k) ss) apart (all_removed (nat_eq k) _ ss absent))),
-                ),
-              )
-          | false ↦ λ is. let t = kept.tied i q in
-              (but k t.0, (first i q t.0 is, with_first t.0 i q (remove_entry (nat_eq k) ss) apart (all_removed (nat_eq k) _ ss t.1)))
-        ]) refl;
+        tied = record {
+          each = λ i q. subst (λ (o : Option ℕ). IsSlotOf i q o ((k, w) ∷ ts)) (sym (now i q)) (held i q);
+          there = λ i q. subst (λ (o : Option ℕ). IsThere o ((k, w) ∷ ts)) (sym (now i q)) (still i q);
+        };
+        few = omega (arith, few, more, ap (λ u. length (cond u (w.entry ∷ listed ts) (listed ts))) used);
       }
     where
       first : (i q : ℕ) (o : Option ℕ) → ((ino == i) && (page == q)) ≡ false → names (but k o) k ≡ holds i q w
       first i q None is = grind (arith, used, at_ino, at_page, is)
       first i q (Some n) is = grind (arith, used, at_ino, at_page, is)
 
--- ---- pages that are dropped
+      held : (i q : ℕ) → IsSlotOf i q (cond ((ino == i) && (page == q)) (Some k) (but k (slot_at i q index))) ((k, w) ∷ remove_entry (nat_eq k) ss)
+      held i q = (elim ((ino == i) && (page == q)) as (λ b. ((ino == i) && (page == q)) ≡ b → IsSlotOf i q (cond b (Some k) (but k (slot_at i q index))) ((k, w) ∷ remove_entry (nat_eq k) ss)) [
+        | true ↦ λ is.
+            let same_ino : ino ≡ i = grind (arith, is) in
+            let same_page : page ≡ q = grind (arith, is) in (
+              grind (arith, used, at_ino, at_page, is),
+              subst (λ x. IsSlotOf x q (Some k) (remove_entry (nat_eq k) ss)) same_ino (subst (λ x. IsSlotOf ino x (Some k) (remove_entry (nat_eq k) ss)) same_page
+                  (as_new (remove_entry (nat_eq k) ss) (others k ss distinct) (all_removed (nat_eq k) _ ss absent))),
+            )
+        | false ↦ λ is. (first i q (slot_at i q index) is, with_first (slot_at i q index) i q (remove_entry (nat_eq k) ss) (others k ss distinct) (all_removed (nat_eq k) _ ss (kept.tied.each i q)))
+      ]) refl
 
-module _ (block ino page : ℕ) where
-  length_freed : (n : ℕ) (ss : Slots) → length (freed_below n ino page ss) ≡ length ss
-  length_freed n [] = refl
-  length_freed n (s ∷ ss) = grind (arith, length_freed n ss)
+      here : is_some (lookup (nat_eq k) ((k, w) ∷ remove_entry (nat_eq k) ss)) ≡ true
+      here = grind arith
 
-  each_freed : (n : ℕ) (ss : Slots) → AllByRecursion (IsSlot block) ss → AllByRecursion (IsSlot block) (freed_below n ino page ss)
-  each_freed n [] h = tt
-  each_freed n (s ∷ ss) h = ((h.0.0, grind (arith, h.0.1)), each_freed n ss h.1)
-
-  tied_freed : (i q : ℕ) (o : Option ℕ) (ss : Slots) → AllByRecursion (IsSlot block) ss → IsSlotOf i q o ss → IsSlotOf i q (cond ((i == ino) && nat_le page q) None o) (freed_below 1024 ino page ss)
-  tied_freed i q o [] each h = tt
-  tied_freed i q o (s ∷ ss) each h = (grind (arith, each.0.0, h.0), tied_freed i q o ss each.1 h.1)
-
-  pub kept_freed : (ss : Slots) → IsKept block ss → IsKept block (freed_below 1024 ino page ss)
-  kept_freed ss kept = record {
-    count = length_freed 1024 ss ∙ kept.count;
-    each = each_freed 1024 ss kept.each;
-    tied = λ i q. let t = kept.tied i q in (_, tied_freed i q t.0 ss kept.each t.1);
-  }
+      still : (i q : ℕ) → IsThere (cond ((ino == i) && (page == q)) (Some k) (but k (slot_at i q index))) ((k, w) ∷ remove_entry (nat_eq k) ss)
+      still i q = (elim ((ino == i) && (page == q)) as (λ b. IsThere (cond b (Some k) (but k (slot_at i q index))) ((k, w) ∷ remove_entry (nat_eq k) ss)) [
+        | true ↦ here
+        | false ↦ there_filled (but k (slot_at i q index)) e.1 (remove_entry (nat_eq k) ss)
+            (there_but (slot_at i q index) ((k, e.1) ∷ remove_entry (nat_eq k) ss)
+            (subst (λ n. IsThere (slot_at i q index) ((n, e.1) ∷ remove_entry (nat_eq k) ss)) key (there_moved (nat_eq k) (slot_at i q index) ss e found (kept.tied.there i q))))
+      ])
 
 -- ---- no page
 
-pub kept_unused : (block : ℕ) (ss : Slots) → length ss ≡ 1024 → AllByRecursion (IsSlot block) ss → AllByRecursion (λ (s : ℕ × Slot). s.1.used ≡ false) ss → IsKept block ss
-kept_unused block ss count each unused = record { count = count; each = each; tied = λ ino page. (None, nowhere ino page ss unused) }
+pub kept_unused : (block : ℕ) (ss : Slots) → length ss ≡ 1024 → AllByRecursion (IsSlot block) ss → AllByRecursion (λ (s : ℕ × Slot). s.1.used ≡ false) ss → IsKept block ss []
+kept_unused block ss count each unused = record { count = count; each = each; tied = record { each = λ ino page. nowhere ino page ss unused; there = λ ino page. tt }; few = omega arith }
   where
     nowhere : (ino page : ℕ) (ts : Slots) → AllByRecursion (λ (s : ℕ × Slot). s.1.used ≡ false) ts → IsSlotOf ino page None ts
     nowhere ino page [] h = tt
@@ -214,33 +272,6 @@ take_all (suc n) (s ∷ ss) h = ap (λ rest. s ∷ rest) (take_all n ss (omega (
 pub more_put : (c : LruCache ℕ Slot) (n : ℕ) (w : Slot) → c.cap ≡ 1024 → length c.entries ≡ n → n < 1024 → AllByRecursion (λ (s : ℕ × Slot). s.0 < n) c.entries → put_entries nat_eq c n w ≡ (n, w) ∷ c.entries
 more_put c n w cap count less below = rw (no_key n c.entries below) (ap (λ rest. (n, w) ∷ rest) (take_all (c.cap - 1) c.entries (omega (arith, cap, count, less))))
 
--- ---- slots one after another
-
-module _ (ino page : ℕ) where
-  pub freed_none : (ss : Slots) → freed_below 0 ino page ss ≡ ss
-  freed_none [] = refl
-  freed_none (s ∷ ss) = grind (arith, freed_none ss)
-
-  freed_same : (n : ℕ) (ss : Slots) → AllByRecursion (λ y. nat_eq n y ≡ false) (keys_of ss) → freed_below n ino page ss ≡ freed_below (n + 1) ino page ss
-  freed_same n [] h = refl
-  freed_same n (s ∷ ss) h = grind (arith, h.0, freed_same n ss h.1)
-
-  pub freed_missed : (n : ℕ) (ss : Slots) → lookup (nat_eq n) (freed_below n ino page ss) ≡ None → freed_below n ino page ss ≡ freed_below (n + 1) ino page ss
-  freed_missed n [] none = refl
-  freed_missed n (s ∷ ss) none = grind (arith, none, freed_missed n ss)
-
-  pub freed_more : (n : ℕ) (ss : Slots) (s w : Slot) → IsDistinct nat_eq (keys_of ss) → lookup (nat_eq n) (freed_below n ino page ss) ≡ Some s → w ≡ freed ino page s
-      → set_value (nat_eq n) (freed_below n ino page ss) w ≡ freed_below (n + 1) ino page ss
-  unfolding IsDistinct
-  freed_more n [] s w d found is = refl
-  freed_more n (t ∷ ss) s w d found is = (elim (nat_eq n t.0) as (λ b. nat_eq n t.0 ≡ b → set_value (nat_eq n) (freed_below n ino page (t ∷ ss)) w ≡ freed_below (n + 1) ino page (t ∷ ss)) [
-    | true ↦ λ same.
-        let here : n ≡ t.0 = grind (arith, same) in
-        let rest = freed_same n ss (subst (λ m. AllByRecursion (λ y. nat_eq m y ≡ false) (keys_of ss)) (sym here) d.0) in
-        grind (arith, same, here, found, is, rest)
-    | false ↦ λ other. grind (arith, other, found, freed_more n ss s w d.1, is)
-  ]) refl
-
 pub found_entry : (k : ℕ) (ss : Slots) → is_some (lookup (nat_eq k) ss) ≡ true → (e : ℕ × Slot) × (lookup_entry (nat_eq k) ss ≡ Some e) × (e.0 ≡ k)
 found_entry k [] is = absurd (let no : false ≡ true = is in cc)
 found_entry k (s ∷ ss) is = (elim (nat_eq k s.0) as (λ b. nat_eq k s.0 ≡ b → is_some (cond b (Some s.1) (lookup (nat_eq k) ss)) ≡ true → (e : ℕ × Slot) × (cond b (Some s) (lookup_entry (nat_eq k) ss) ≡ Some e) × (e.0 ≡ k)) [
@@ -263,3 +294,11 @@ lookup_set test (s ∷ ss) w = (elim (test s.0) as (λ b. test s.0 ≡ b → is_
   | true ↦ λ is. rw is refl
   | false ↦ λ is. rw is (lookup_set test ss w)
 ]) refl
+
+-- what an index answers
+pub held : {block : ℕ} {index : List Tie} {ss : Slots} → IsKept block ss index → (ino page : ℕ) (o : Option ℕ) → o ≡ slot_at ino page index → IsSlotOf ino page o ss
+held {ss = ss} kept ino page o is = subst (λ (k : Option ℕ). IsSlotOf ino page k ss) (sym is) (kept.tied.each ino page)
+
+pub key_of : (k : ℕ) (ss : Slots) (e : ℕ × Slot) → lookup_entry (nat_eq k) ss ≡ Some e → e.0 ≡ k
+key_of k [] e found = absurd (let no : None ≡ Some e = found in cc)
+key_of k (s ∷ ss) e found = grind (arith, found, key_of k ss e)

@@ -6,8 +6,8 @@ use Rattle.std.specs.Option.{option_map_or}
 use Rattle.std.proofs.lemmas.List.Sums.{sum_by-cons}
 use Rattle.std.specs.Map.{lookup, lookup_entry, remove_entry, set_value}
 use Rattle.lru.specs.LruCache.{promoted}
-use Rattle.vx_pages.specs.Pages.{Entry, is_page, find, without, to_front, edit, dropped_from, last_changed}
-use Rattle.vx_pages.specs.Slots.{Slot, Slots, listed, IsSlotOf, IsSlot, changed_slots, last_changed_slot, freed_below}
+use Rattle.vx_pages.specs.Pages.{Entry, is_page, find, without, to_front, edit, last_changed}
+use Rattle.vx_pages.specs.Slots.{Slot, Slots, listed, IsSlotOf, changed_slots, last_changed_slot}
 
 module _ (ino page : ℕ) where
   pub find_listed : (k : ℕ) (ss : Slots) → IsSlotOf ino page (Some k) ss → find ino page (listed ss) ≡ option_map (λ (s : Slot). s.entry) (lookup (nat_eq k) ss)
@@ -50,10 +50,6 @@ module _ (ino page : ℕ) where
   pub absent : (ss : Slots) → find ino page (listed ss) ≡ None → IsSlotOf ino page None ss
   absent [] h = tt
   absent (t ∷ ss) h = grind (arith, h, absent ss)
-
-  pub freed_listed : (block : ℕ) (ss : Slots) → AllByRecursion (IsSlot block) ss → listed (freed_below 1024 ino page ss) ≡ dropped_from ino page (listed ss)
-  freed_listed block [] h = refl
-  freed_listed block (t ∷ ss) h = grind (arith, h.0.0, freed_listed block ss h.1)
 
 pub unused_listed : (ss : Slots) → AllByRecursion (λ (s : ℕ × Slot). s.1.used ≡ false) ss → listed ss ≡ []
 unused_listed [] h = refl

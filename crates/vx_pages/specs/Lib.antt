@@ -1,4 +1,5 @@
 pub mod Pages
+pub mod Indexes
 pub mod Slots
 pub mod Codes
 pub mod Lending

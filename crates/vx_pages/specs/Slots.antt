@@ -1,7 +1,9 @@
 -- The slots in which pages stand, most recent first.
-use Rattle.std.specs.Prelude.{◌≡◌, ℕ, ◌<◌, Bool, false, ◌&&◌, ◌+◌, nat_eq, nat_lt, if◌then◌else◌, not, List, [], ◌∷◌, length, Option, Some, None}
+use Rattle.std.specs.Prelude.{◌≡◌, ℕ, ◌<◌, ◌≤◌, ⊤, Bool, true, false, ◌&&◌, ◌+◌, nat_eq, if◌then◌else◌, List, [], ◌∷◌, length, Option, Some, None, is_some}
 use Rattle.std.specs.List.{AllByRecursion}
-use Rattle.vx_pages.specs.Pages.{Entry, is_page, is_from}
+use Rattle.std.specs.Map.{lookup}
+use Rattle.vx_pages.specs.Pages.{Entry, is_page}
+use Rattle.vx_pages.specs.Indexes.{Tie, slot_at}
 
 -- whether a page stands in the slot, and which; of an unused slot the bytes stay
 pub record Slot : Type 0 where
@@ -10,9 +12,6 @@ pub record Slot : Type 0 where
 
 abbrev pub holds : ℕ → ℕ → Slot → Bool
 holds ino page s = s.used && is_page ino page s.entry
-
-abbrev pub freed : ℕ → ℕ → Slot → Slot
-freed ino page s = record { used = s.used && not (is_from ino page s.entry); entry = s.entry }
 
 -- slots with their numbers
 abbrev pub Slots : Type 0
@@ -50,13 +49,24 @@ abbrev pub last_changed_slot : Option (ℕ × ℕ) → Slots → Option (ℕ × 
 last_changed_slot last [] = last
 last_changed_slot last (s ∷ ss) = last_changed_slot (if s.1.used && s.1.entry.changed then Some (s.1.entry.ino, s.1.entry.page) else last) ss
 
--- the file's pages from this one on are dropped from the slots with lower numbers
-abbrev pub freed_below : ℕ → ℕ → ℕ → Slots → Slots
-freed_below n ino page [] = []
-freed_below n ino page (s ∷ ss) = (s.0, if nat_lt s.0 n then freed ino page s.1 else s.1) ∷ freed_below n ino page ss
+-- the option has a number only if a slot has it
+abbrev pub IsThere : Option ℕ → Slots → Type 0
+IsThere None ss = ⊤
+IsThere (Some k) ss = is_some (lookup (nat_eq k) ss) ≡ true
 
--- all slots are there, and each page stands in one at most
-pub record IsKept (block : ℕ) (ss : Slots) : Type 0 where
+-- the number, if it is another one
+abbrev pub but : ℕ → Option ℕ → Option ℕ
+but k None = None
+but k (Some n) = if nat_eq n k then None else Some n
+
+-- an index has exactly the pages that stand in slots, each with its slot
+pub record AreTied (index : List Tie) (ss : Slots) : Type 0 where
+  pub each : (ino page : ℕ) → IsSlotOf ino page (slot_at ino page index) ss
+  pub there : (ino page : ℕ) → IsThere (slot_at ino page index) ss
+
+-- all slots are there, and an index has each page once
+pub record IsKept (block : ℕ) (ss : Slots) (index : List Tie) : Type 0 where
   pub count : length ss ≡ 1024
   pub each : AllByRecursion (IsSlot block) ss
-  pub tied : (ino page : ℕ) → (k : Option ℕ) × IsSlotOf ino page k ss
+  pub tied : AreTied index ss
+  pub few : length index ≤ length (listed ss)

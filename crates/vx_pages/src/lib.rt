@@ -3,6 +3,7 @@
 
 mod page_cache;
 mod slot;
+mod slot_index;
 
 pub use page_cache::PageCache;
 

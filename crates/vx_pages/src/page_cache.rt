@@ -5,10 +5,12 @@ ghost use Rattle.std.specs.Borrow.{sem};
 ghost use Rattle.std.specs.Map.{keys_of, lookup, remove_entry, set_value};
 ghost use Rattle.lru.specs.LruCache.{lru_cache, promoted};
 ghost use Rattle.vx_base.specs.declared.geom.Geom.{Geom};
-ghost use Rattle.vx_pages.specs.Pages.{Entry, find, to_front, edit, written, cleaned, dropped_from, with_room, with_put, last_changed, IsCache};
-ghost use Rattle.vx_pages.specs.Slots.{IsSlotOf, IsSlot, slot_for_new, changed_slots, last_changed_slot, freed_below};
+ghost use Rattle.vx_pages.specs.Pages.{Entry, find, to_front, edit, without, written, cleaned, dropped_from, with_room, with_put, last_changed, IsCache};
+ghost use Rattle.vx_pages.specs.Indexes.{slot_at};
+ghost use Rattle.vx_pages.specs.Slots.{listed, IsSlot, AreTied, IsKept, but, slot_for_new, changed_slots, last_changed_slot};
 
 use crate::slot::PageSlot;
+use crate::slot_index::SlotIndex;
 use lru::LruCache;
 use std::alloc::{AllocError, Global};
 use std::marker::Model;
@@ -25,6 +27,8 @@ pub struct PageCache {
     block: u32,
     // Every slot by its number, used or not, so that no later call wants memory.
     slots: LruCache<u32, PageSlot>,
+    // The slot of each page.
+    index: SlotIndex,
 }
 
 impl Model for PageCache {
@@ -38,7 +42,7 @@ impl Model for PageCache {
 
     ghost view = { λ a. record { block = a.block; entries = listed a.slots.entries } };
 
-    ghost invariant = { λ a. IsKept a.block a.slots.entries };
+    ghost invariant = { λ a. IsKept a.block a.slots.entries a.index };
 }
 
 impl PageCache {
@@ -56,9 +60,11 @@ impl PageCache {
         ensures { IfOk result (λ cache. cache ≡ record { block = geom.block; entries = [] }) }
     {
         let slots = unused_slots(alloc, geom.block)?;
+        let index = SlotIndex::new(alloc)?;
         Ok(PageCache {
             block: geom.block,
             slots,
+            index,
         })
     }
 
@@ -86,7 +92,7 @@ impl PageCache {
         ensures answer { result ≡ is_some (find ino p self.old.entries) }
         ensures front { self.new ≡ record self.old { entries = to_front ino p self.old.entries } }
     {
-        match slot_of(&self.slots, ino, p) {
+        match self.index.find(ino, p) {
             Some(number) => self.slots.promote(&number),
             None => false,
         }
@@ -97,7 +103,7 @@ impl PageCache {
         ensures bytes { option_copied result ≡ option_map (λ e. e.bytes) (find ino p self.now.entries) }
         ensures size { IfSome result (λ b. length b.now ≡ self.now.block) }
     {
-        match slot_of(&self.slots, ino, p) {
+        match self.index.find(ino, p) {
             Some(number) => match self.slots.peek(&number) {
                 Some(slot) => Some(slot.bytes()),
                 None => None,
@@ -112,7 +118,7 @@ impl PageCache {
         ensures answer { result ≡ is_some (find ino p self.old.entries) }
         ensures written { self.new ≡ record self.old { entries = to_front ino p (edit ino p (written from bytes.now) self.old.entries) } }
     {
-        match slot_of(&self.slots, ino, p) {
+        match self.index.find(ino, p) {
             Some(number) => match self.slots.peek_mut(&number) {
                 Some(slot) => {
                     slot.write(from, bytes);
@@ -133,7 +139,9 @@ impl PageCache {
     {
         match spare_slot(&self.slots) {
             Some(number) => {
+                forget(&self.slots, &mut self.index, number);
                 fill(&mut self.slots, number, ino, p, page);
+                self.index.insert(ino, p, number);
                 true
             }
             None => false,
@@ -144,7 +152,7 @@ impl PageCache {
     pub fn is_changed(&self, ino: Ino, p: Page) -> Option<bool>
         ensures { result ≡ option_map (λ e. e.changed) (find ino p self.now.entries) }
     {
-        match slot_of(&self.slots, ino, p) {
+        match self.index.find(ino, p) {
             Some(number) => match self.slots.peek(&number) {
                 Some(slot) => Some(slot.is_changed()),
                 None => None,
@@ -171,7 +179,7 @@ impl PageCache {
     pub fn clean(&mut self, ino: Ino, p: Page)
         ensures { self.new ≡ record self.old { entries = edit ino p cleaned self.old.entries } }
     {
-        if let Some(number) = slot_of(&self.slots, ino, p) {
+        if let Some(number) = self.index.find(ino, p) {
             if let Some(slot) = self.slots.peek_mut(&number) {
                 slot.clean();
             }
@@ -190,7 +198,7 @@ impl PageCache {
     pub fn drop_from(&mut self, ino: Ino, p: Page)
         ensures { self.new ≡ record self.old { entries = dropped_from ino p self.old.entries } }
     {
-        free_from(&mut self.slots, ino, p);
+        free_from(&mut self.slots, &mut self.index, ino, p);
     }
 }
 
@@ -209,19 +217,6 @@ fn unused_slots(alloc: Global, block: u32) -> Result<LruCache<u32, PageSlot>, Al
         }
     }
     Ok(slots)
-}
-
-// The slot in which a page stands.
-fn slot_of(slots: &LruCache<u32, PageSlot>, ino: Ino, page: Page) -> Option<u32>
-    requires { (k : Option ℕ) × IsSlotOf ino page k slots.now.entries }
-    ensures { IsSlotOf ino page result slots.now.entries }
-{
-    for (number, slot) in slots.iter() {
-        if slot.holds(ino, page) {
-            return Some(*number);
-        }
-    }
-    None
 }
 
 // The slot that a new page gets: an unused one, or else that of the last unchanged page.
@@ -282,15 +277,51 @@ fn last_changed_page(slots: &LruCache<u32, PageSlot>) -> Option<(Ino, Page)>
     last
 }
 
+// Takes the page of a slot out of the index, if one stands there.
+fn forget(slots: &LruCache<u32, PageSlot>, index: &mut SlotIndex, number: u32)
+    requires there { IsSome (lookup (nat_eq number) slots.now.entries) }
+    requires tied { AreTied index.old slots.now.entries }
+    requires few { length index.old ≤ length (listed slots.now.entries) }
+    ensures others { (ino page : ℕ) → slot_at ino page index.new ≡ but number (slot_at ino page index.old) }
+    ensures few { length index.new ≤ length (listed (remove_entry (nat_eq number) slots.now.entries)) }
+{
+    if let Some(slot) = slots.peek(&number) {
+        if slot.is_used() {
+            let (ino, page) = slot.page();
+            index.remove(ino, page);
+        }
+    }
+}
+
 // The file's pages from `page` on no longer stand in any slot.
-fn free_from(slots: &mut LruCache<u32, PageSlot>, ino: Ino, page: Page)
-    ensures entries { slots.new.entries ≡ freed_below 1024 ino page slots.old.entries }
+fn free_from(slots: &mut LruCache<u32, PageSlot>, index: &mut SlotIndex, ino: Ino, page: Page)
+    requires tied { AreTied index.old slots.old.entries }
+    requires short { length index.old ≤ 1024 }
+    ensures dropped { listed slots.new.entries ≡ dropped_from ino page (listed slots.old.entries) }
+    ensures kept { (block : ℕ) → IsKept block slots.old.entries index.old → IsKept block slots.new.entries index.new }
+{
+    for _ in 0..PAGES {
+        match index.first_from(ino, page) {
+            Some(first) => free_page(slots, index, ino, first),
+            None => return,
+        }
+    }
+}
+
+// A page that stands in a slot is dropped from it.
+fn free_page(slots: &mut LruCache<u32, PageSlot>, index: &mut SlotIndex, ino: Ino, page: Page)
+    requires tied { AreTied index.old slots.old.entries }
+    requires there { IsSome (slot_at ino page index.old) }
+    ensures dropped { listed slots.new.entries ≡ without ino page (listed slots.old.entries) }
+    ensures tied { AreTied index.new slots.new.entries }
+    ensures fewer { length index.new + 1 ≡ length index.old }
+    ensures kept { (block : ℕ) → IsKept block slots.old.entries index.old → IsKept block slots.new.entries index.new }
 {
     // Its clause says that no number comes twice.
     let _count = slots.len();
-    for number in 0..PAGES {
+    if let Some(number) = index.remove(ino, page) {
         if let Some(slot) = slots.peek_mut(&number) {
-            slot.free_from(ino, page);
+            slot.free();
         }
     }
 }

@@ -1,7 +1,7 @@
 //! A place in memory for one page.
 ghost use Rattle.std.specs.Prelude.{◌≡◌, ◌+◌, ◌≤◌, true, false, length, IfOk};
 ghost use Rattle.vx_pages.specs.Pages.{written, cleaned};
-ghost use Rattle.vx_pages.specs.Slots.{holds, freed};
+ghost use Rattle.vx_pages.specs.Slots.{holds};
 
 use std::alloc::{AllocError, Global};
 use std::marker::Model;
@@ -108,12 +108,10 @@ impl PageSlot {
         self.changed = false;
     }
 
-    /// A page of the file from `page` on no longer stands here.
-    pub fn free_from(&mut self, ino: Ino, page: Page)
-        ensures { self.new ≡ freed ino page self.old }
+    /// No page stands here any longer.
+    pub fn free(&mut self)
+        ensures { self.new ≡ record { used = false; entry = self.old.entry } }
     {
-        if self.ino == ino && self.page >= page {
-            self.used = false;
-        }
+        self.used = false;
     }
 }

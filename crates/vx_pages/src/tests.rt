@@ -72,3 +72,36 @@ fn a_cache_that_fills(rt: HostRuntime) -> Result<(), Fail> {
     assert!(rt; !put(&mut cache, 1, &[0; 1024]));
     Ok(())
 }
+
+#[test]
+fn a_range_that_is_dropped(rt: HostRuntime) -> Result<(), Fail> {
+    let mut cache = PageCache::new(rt.alloc())?;
+    let ino = Ino::new(3);
+    for page in 0..1024 {
+        assert!(rt; put(&mut cache, page, &[1; 1024]));
+    }
+    cache.drop_from(ino, Page::new(512));
+    for page in 0..1024 {
+        assert_eq!(rt; cache.peek(ino, Page::new(page)).is_some(), page < 512);
+    }
+    // The pages of another file take the free places, and one more that of the least recent page.
+    for page in 0..513 {
+        let absent = cache.peek(Ino::new(4), Page::new(page)).is_none();
+        assert!(rt;
+            absent && cache.block() == 1024 && cache.put(Ino::new(4), Page::new(page), &[2; 1024])
+        );
+    }
+    for page in 0..1024 {
+        let found = cache.peek(ino, Page::new(page));
+        assert_eq!(rt;
+            matches!(found, Some(bytes) if bytes.first() == Some(&1)),
+            0 < page && page < 512
+        );
+        let found = cache.peek(Ino::new(4), Page::new(page));
+        assert_eq!(rt;
+            matches!(found, Some(bytes) if bytes.first() == Some(&2)),
+            page < 513
+        );
+    }
+    Ok(())
+}

@@ -1,15 +1,23 @@
-use Rattle.std.proofs.Common.{sym, ◌∙◌}
-use Rattle.vx_pages.proofs.Kept.{freed_none, freed_more, freed_missed}
-use Rattle.vx_pages.proofs.page_cache.free_from.Goals.{in-Some, in_default}
+use Rattle.std.proofs.Common.{◌≤◌, length, sym, ap, ◌∙◌, arith}
+use Rattle.vx_pages.specs.Pages.{dropped_from}
+use Rattle.vx_pages.specs.Slots.{listed}
+use Rattle.vx_pages.proofs.Leaving.{dropped_without, dropped_none, lacks_all}
 use Rattle.vx_pages.proofs.page_cache.free_from.Goals as goal
 
-pub loop-number-init : goal.loop-number-init
-loop-number-init c = sym (freed_none c.args.ino c.args.page c.args.slots.now.entries)
+pub loop-preserved : goal.loop-preserved
+loop-preserved c = (
+  c.free_page.ensures.tied,
+  omega (arith, c.loop.invariant.1, c.free_page.ensures.fewer),
+  ap (dropped_from c.args.ino c.args.page) c.free_page.ensures.dropped
+      ∙ dropped_without c.args.ino c.args.page c.in-Some.first (listed c.loop.slots.entries) c.in-Some.ensures.found.0
+      ∙ c.loop.invariant.2,
+  λ block kept. c.free_page.ensures.kept block (c.loop.invariant.3 block kept),
+)
 
-pub loop-number-preserved : goal.loop-number-preserved
-loop-number-preserved c =
-    let n = c.loop-number.number-counter in let ss = c.args.slots.now.entries in let distinct = c.len-count.ensures.valid.0 in
-    elim c.match-peek_mut.branch [
-      | in-Some w ↦ rw (w.slots-is, c.loop-number.invariant) (freed_more c.args.ino c.args.page n ss w.in-Some.slot.now w.free_from.new.self distinct (rw (← c.loop-number.invariant) (sym w.in-Some.ensures.value)) w.free_from.ensures)
-      | in_default w ↦ rw (w.slots-is) (c.loop-number.invariant ∙ freed_missed c.args.ino c.args.page n ss (rw (← c.loop-number.invariant) (sym w.in_default.ensures.value)))
-    ]
+pub returns-in-None-clause-dropped : goal.returns-in-None-clause-dropped
+returns-in-None-clause-dropped c = sym (dropped_none c.args.ino c.args.page c.loop.index c.in-None.ensures.none c.loop.slots.entries c.loop.invariant.0.each) ∙ c.loop.invariant.2
+
+pub returns-clause-dropped : goal.returns-clause-dropped
+returns-clause-dropped c =
+    let none_left : length c.loop.index ≤ 0 = omega (arith, c.loop.invariant.1, c.loop-test.false) in
+    sym (dropped_none c.args.ino c.args.page c.loop.index (lacks_all c.args.ino c.args.page c.loop.index none_left) c.loop.slots.entries c.loop.invariant.0.each) ∙ c.loop.invariant.2
