@@ -4,3 +4,4 @@ pub mod Spare
 pub mod Facts
 pub mod Rising
 pub mod Leaving
+pub mod Backwards

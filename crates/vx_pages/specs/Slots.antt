@@ -40,6 +40,11 @@ abbrev pub slot_for_new : Option ℕ → Slots → Option ℕ
 slot_for_new last [] = last
 slot_for_new last (s ∷ ss) = if s.1.used then slot_for_new (if s.1.entry.changed then last else Some s.0) ss else Some s.0
 
+-- the last unchanged slot, or else this
+abbrev pub last_unchanged_slot : Option ℕ → Slots → Option ℕ
+last_unchanged_slot last [] = last
+last_unchanged_slot last (s ∷ ss) = last_unchanged_slot (if s.1.entry.changed then last else Some s.0) ss
+
 abbrev pub changed_slots : Slots → ℕ
 changed_slots [] = 0
 changed_slots (s ∷ ss) = (if s.1.used && s.1.entry.changed then 1 else 0) + changed_slots ss

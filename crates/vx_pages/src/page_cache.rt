@@ -7,7 +7,7 @@ ghost use Rattle.lru.specs.LruCache.{lru_cache, promoted};
 ghost use Rattle.vx_base.specs.declared.geom.Geom.{Geom};
 ghost use Rattle.vx_pages.specs.Pages.{Entry, find, to_front, edit, without, written, cleaned, dropped_from, with_room, with_put, last_changed, IsCache};
 ghost use Rattle.vx_pages.specs.Indexes.{slot_at};
-ghost use Rattle.vx_pages.specs.Slots.{listed, IsSlot, AreTied, IsKept, but, slot_for_new, changed_slots, last_changed_slot};
+ghost use Rattle.vx_pages.specs.Slots.{listed, IsSlot, AreTied, IsKept, but, slot_for_new, last_unchanged_slot, changed_slots, last_changed_slot};
 
 use crate::slot::PageSlot;
 use crate::slot_index::SlotIndex;
@@ -137,7 +137,7 @@ impl PageCache {
         ensures answer { result ≡ is_some (with_room self.old.entries) }
         ensures added { self.new ≡ record self.old { entries = with_put (record { ino = ino; page = p; bytes = page.now; changed = false }) self.old.entries } }
     {
-        match spare_slot(&self.slots) {
+        match spare_slot(&self.slots, &self.index) {
             Some(number) => {
                 forget(&self.slots, &mut self.index, number);
                 fill(&mut self.slots, number, ino, p, page);
@@ -219,13 +219,26 @@ fn unused_slots(alloc: Global, block: u32) -> Result<LruCache<u32, PageSlot>, Al
     Ok(slots)
 }
 
-// The slot that a new page gets: an unused one, or else that of the last unchanged page.
-fn spare_slot(slots: &LruCache<u32, PageSlot>) -> Option<u32>
+// The slot that a new page gets: the first unused one, or else that of the last unchanged page, which a full cache finds from the end.
+fn spare_slot(slots: &LruCache<u32, PageSlot>, index: &SlotIndex) -> Option<u32>
+    requires count { length slots.now.entries ≡ 1024 }
+    requires few { length index.now ≤ length (listed slots.now.entries) }
     ensures spare { result ≡ slot_for_new None slots.now.entries }
     ensures distinct { IsDistinct nat_eq (keys_of slots.now.entries) }
 {
     // Its clause says that no number comes twice.
     let _count = slots.len();
+    if index.len() < PAGES as usize {
+        first_spare(slots)
+    } else {
+        last_unchanged(slots)
+    }
+}
+
+// The first unused slot, or else that of the last unchanged page.
+fn first_spare(slots: &LruCache<u32, PageSlot>) -> Option<u32>
+    ensures { result ≡ slot_for_new None slots.now.entries }
+{
     let mut last = None;
     for (number, slot) in slots.iter() {
         if !slot.is_used() {
@@ -236,6 +249,19 @@ fn spare_slot(slots: &LruCache<u32, PageSlot>) -> Option<u32>
         }
     }
     last
+}
+
+// The last slot whose page is unchanged.
+fn last_unchanged(slots: &LruCache<u32, PageSlot>) -> Option<u32>
+    ensures { result ≡ last_unchanged_slot None slots.now.entries }
+{
+    for (number, slot) in slots.iter().rev() {
+        let changed = slot.is_changed();
+        if !changed {
+            return Some(*number);
+        }
+    }
+    None
 }
 
 // Puts a page into a slot, which comes first then.
@@ -268,13 +294,12 @@ fn count_changed(slots: &LruCache<u32, PageSlot>) -> u32
 fn last_changed_page(slots: &LruCache<u32, PageSlot>) -> Option<(Ino, Page)>
     ensures { result ≡ last_changed_slot None slots.now.entries }
 {
-    let mut last = None;
-    for (_number, slot) in slots.iter() {
+    for (_number, slot) in slots.iter().rev() {
         if slot.is_used() && slot.is_changed() {
-            last = Some(slot.page());
+            return Some(slot.page());
         }
     }
-    last
+    None
 }
 
 // Takes the page of a slot out of the index, if one stands there.

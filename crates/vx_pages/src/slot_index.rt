@@ -39,6 +39,13 @@ impl SlotIndex {
         Ok(SlotIndex { ties })
     }
 
+    /// How many pages have a slot.
+    pub fn len(&self) -> usize
+        ensures { result ≡ length self.now }
+    {
+        self.ties.len()
+    }
+
     /// The number of a page's slot, if it has one.
     pub fn find(&self, ino: Ino, page: Page) -> Option<u32>
         ensures { result ≡ slot_at ino page self.now }

@@ -6,4 +6,4 @@ abbrev pub invariant-loop-number : goal.invariant-loop-number
 invariant-loop-number l =
     (goal.iterator-loop-number).can_next l._number-iterator ×
     (goal.iterator-loop-number).is_finite l._number-iterator ×
-    (last_changed_slot l.last l._number-iterator ≡ last_changed_slot None l.slots.entries)
+    (last_changed_slot None l._number-iterator.iter ≡ last_changed_slot None l.slots.entries)

@@ -1,9 +1,9 @@
 use Rattle.std.proofs.Common.{◌≡◌, None}
-use Rattle.vx_pages.specs.Slots.{slot_for_new}
-use Rattle.vx_pages.proofs.page_cache.spare_slot.Given as goal
+use Rattle.vx_pages.specs.Slots.{last_unchanged_slot}
+use Rattle.vx_pages.proofs.page_cache.last_unchanged.Given as goal
 
 abbrev pub invariant-loop-number : goal.invariant-loop-number
 invariant-loop-number l =
     (goal.iterator-loop-number).can_next l.number-iterator ×
     (goal.iterator-loop-number).is_finite l.number-iterator ×
-    (slot_for_new l.last l.number-iterator ≡ slot_for_new None l.slots.entries)
+    (last_unchanged_slot None l.number-iterator.iter ≡ last_unchanged_slot None l.slots.entries)
