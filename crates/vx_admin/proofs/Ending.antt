@@ -1,5 +1,5 @@
 -- How a check ends, and its output.
-use Rattle.std.proofs.Common.{◌≡◌, ℕ, List, Result, Ok, Err, ap, ◌∙◌}
+use Rattle.std.proofs.Common.{◌≡◌, ℕ, List, Result, Ok, Err}
 use Rattle.std.specs.Prelude.{OnOk, OnErr, is_ok}
 use Rattle.std.specs.Io.KnownBytes.{Appends}
 use Rattle.vx_admin.specs.declared.end.End.TheVariants.{Done}

@@ -1,4 +1,4 @@
-use Rattle.std.proofs.Common.{refl, sym, ◌∙◌}
+use Rattle.std.proofs.Common.{sym, ◌∙◌}
 use Rattle.vx_admin.proofs.Ending.{reason_of}
 use Rattle.vx_admin.proofs.top.checked.Goals as goal
 
