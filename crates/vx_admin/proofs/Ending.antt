@@ -1,5 +1,5 @@
 -- How a check ends, and its output.
-use Rattle.std.proofs.Common.{◌≡◌, ℕ, List, Result, Ok, Err, ap, ◌∙◌}
+use Rattle.std.proofs.Common.{◌≡◌, ℕ, List, Result, Ok, Err}
 use Rattle.std.specs.Prelude.{OnOk, OnErr, is_ok}
 use Rattle.std.specs.Io.KnownBytes.{Appends}
 use Rattle.vx_admin.specs.declared.end.End.TheVariants.{Done}
@@ -10,7 +10,7 @@ use Rattle.vx_log.specs.Moments.{Told}
 use Rattle.vx_model.specs.Replays.{ReplaysAs, IsClean, IsLeft}
 use Rattle.vx_model.specs.Tree.{Tree}
 use Rattle.vx_replay.specs.LogReads.{Shows, IsRead}
-use Rattle.vx_replay.specs.Replayed.{IsCounted}
+use Rattle.vx_replay.specs.Replayed.{IsCounted, IsSettled}
 use Rattle.vx_replay.specs.declared.refusal.ReplayRefusal.{ReplayRefusal}
 use Rattle.vx_replay.specs.declared.top.Recovered.{Recovered}
 use Rattle.vx_replay.specs.declared.top.Recovered.TheVariants.{Clean, Replayed}
@@ -25,9 +25,10 @@ module _ (old new : State) (r : Result Recovered ReplayRefusal)
     (left : (t : Tape) (tree : Tree) (records sectors : ℕ) → Shows old t → ReplaysAs (now t) tree → r ≡ Ok (Replayed records sectors) → Told new (IsLeft tree))
     (counted : (t : Tape) (records sectors : ℕ) → Shows old t → r ≡ Ok (Replayed records sectors) → IsCounted old.size (now t) records sectors)
     (clean : (t : Tape) (tree : Tree) → Shows old t → ReplaysAs (now t) tree → r ≡ Ok Clean → IsClean (now t) tree)
+    (settled : (t : Tape) → Shows old t → r ≡ Ok Clean → IsSettled old.size (now t))
     (unwritten : r ≡ Ok Clean → IsRead old new) where
   pub reason_of : (found : Recovered) → r ≡ Ok found → new.write_faults ≡ old.write_faults → HasReason old new (Done found)
-  reason_of Clean is fine = record { read = unwritten is; clean = λ t tree shows replays. clean t tree shows replays is }
+  reason_of Clean is fine = record { read = unwritten is; settled = λ t shows. settled t shows is; clean = λ t tree shows replays. clean t tree shows replays is }
   reason_of (Replayed records sectors) is fine = record {
     fine = fine;
     counted = λ t shows. counted t records sectors shows is;

@@ -12,14 +12,15 @@ use Rattle.vx_model.specs.Replays.{ReplaysAs, IsClean, IsLeft}
 use Rattle.vx_model.specs.Tree.{Tree}
 use Rattle.vx_replay.specs.BadImages.{IsBadSuper, IsBadLog}
 use Rattle.vx_replay.specs.LogReads.{Shows, IsRead}
-use Rattle.vx_replay.specs.Replayed.{IsCounted}
+use Rattle.vx_replay.specs.Replayed.{IsCounted, IsSettled}
 use Rattle.vx_replay.specs.declared.refusal.ReplayRefusal.TheVariants as no
 use Rattle.vx_replay.specs.declared.top.Recovered.TheVariants.{Clean, Replayed}
 use Rattle.vx_script.specs.Puts.{AppendsPrefix}
 
--- the image was only read, and it is clean
+-- the image was only read: its superblock is marked clean, and its log holds nothing
 pub record IsFoundClean (old new : State) : Type 0 where
   pub read : IsRead old new
+  pub settled : (t : Tape) → Shows old t → IsSettled old.size (now t)
   pub clean : (t : Tape) (tree : Tree) → Shows old t → ReplaysAs (now t) tree → IsClean (now t) tree
 
 -- So many records and sectors of the log were carried home, and no write failed. A crash leaves one image then: it is clean, and

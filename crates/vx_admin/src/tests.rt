@@ -55,22 +55,19 @@ fn check(alloc: Global, words: &[&str], room: u32, dev: MemDisk) -> Result<Seen,
     Ok(Seen { status, dev, out })
 }
 
+/// Whether a check ended so, after so many operations of its device.
+fn ended(seen: &Seen, status: u8, line: &[u8], ops: u64) -> bool {
+    seen.status == status && seen.out.as_slice() == line && seen.dev.ops() == ops
+}
+
 #[test]
 fn replay_and_again(rt: HostRuntime) -> Result<(), Fail> {
     let disk = stopped(rt.alloc(), &[], &[])?;
-    assert_eq!(rt; disk.ops(), STOPPED);
     let first = check(rt.alloc(), &["fsck", "disk.img"], 64, disk)?;
-    assert_eq!(rt; first.status, 0);
-    assert_eq!(rt; first.out.as_slice(), b"replayed 1 1 0\n".as_slice());
     // A barrier, the home, a barrier, the head sector, a barrier, the superblock, a barrier.
-    assert_eq!(rt; first.dev.ops(), STOPPED + 7);
-    let mut again = check(rt.alloc(), &["fsck", "disk.img"], 64, first.dev)?;
-    assert_eq!(rt; again.status, 0);
-    assert_eq!(rt; again.out.as_slice(), b"clean\n".as_slice());
-    assert_eq!(rt; again.dev.ops(), STOPPED + 7);
-    let mut sector = [0; 512];
-    again.dev.read(1031, &mut sector)?;
-    assert_eq!(rt; sector[511], 7);
+    assert!(rt; ended(&first, 0, b"replayed 1 1 0\n", STOPPED + 7));
+    let again = check(rt.alloc(), &["fsck", "disk.img"], 64, first.dev)?;
+    assert!(rt; ended(&again, 0, b"clean\n", STOPPED + 7));
     Ok(())
 }
 
@@ -78,39 +75,42 @@ fn replay_and_again(rt: HostRuntime) -> Result<(), Fail> {
 fn full_sink(rt: HostRuntime) -> Result<(), Fail> {
     let disk = stopped(rt.alloc(), &[], &[])?;
     let seen = check(rt.alloc(), &["fsck", "disk.img"], 4, disk)?;
-    assert_eq!(rt; seen.status, 5);
-    assert_eq!(rt; seen.out.as_slice(), b"repl".as_slice());
-    assert_eq!(rt; seen.dev.ops(), STOPPED + 7);
+    assert!(rt; ended(&seen, 5, b"repl", STOPPED + 7));
     Ok(())
 }
 
+/// The home, which is the second operation of the replay, fails.
 #[test]
-fn failing_device(rt: HostRuntime) -> Result<(), Fail> {
-    // The home is the second operation of the replay.
+fn failing_write(rt: HostRuntime) -> Result<(), Fail> {
     let disk = stopped(rt.alloc(), &[STOPPED + 2], &[])?;
     let seen = check(rt.alloc(), &["fsck", "disk.img"], 64, disk)?;
-    assert_eq!(rt; seen.status, 4);
-    assert_eq!(rt; seen.out.as_slice(), b"refused 4 WriteFault\n".as_slice());
-    let disk = stopped(rt.alloc(), &[], &[2])?;
-    let seen = check(rt.alloc(), &["fsck", "disk.img"], 64, disk)?;
-    assert_eq!(rt; seen.status, 8);
-    assert_eq!(rt; seen.out.as_slice(), b"refused 8 ReadFault\n".as_slice());
-    assert_eq!(rt; seen.dev.ops(), STOPPED);
+    assert!(rt; ended(&seen, 4, b"refused 4 WriteFault\n", STOPPED + 2));
     Ok(())
 }
 
 #[test]
-fn bad_images(rt: HostRuntime) -> Result<(), Fail> {
+fn failing_read(rt: HostRuntime) -> Result<(), Fail> {
+    let disk = stopped(rt.alloc(), &[], &[2])?;
+    let seen = check(rt.alloc(), &["fsck", "disk.img"], 64, disk)?;
+    assert!(rt; ended(&seen, 8, b"refused 8 ReadFault\n", STOPPED));
+    Ok(())
+}
+
+#[test]
+fn zeros(rt: HostRuntime) -> Result<(), Fail> {
     let zeros = disk(rt.alloc(), &[], &[])?;
     let seen = check(rt.alloc(), &["fsck", "disk.img"], 64, zeros)?;
-    assert_eq!(rt; seen.status, 2);
-    assert_eq!(rt; seen.out.as_slice(), b"refused 2 BadSuper 1\n".as_slice());
-    let mut headless = disk(rt.alloc(), &[], &[])?;
-    format(&mut headless)?;
-    headless.write(2, &[0; 512])?;
-    let seen = check(rt.alloc(), &["fsck", "disk.img"], 64, headless)?;
-    assert_eq!(rt; seen.status, 2);
-    assert_eq!(rt; seen.out.as_slice(), b"refused 2 BadLog 2\n".as_slice());
+    assert!(rt; ended(&seen, 2, b"refused 2 BadSuper 1\n", 0));
+    Ok(())
+}
+
+#[test]
+fn no_head_sector(rt: HostRuntime) -> Result<(), Fail> {
+    let mut disk = disk(rt.alloc(), &[], &[])?;
+    format(&mut disk)?;
+    disk.write(2, &[0; 512])?;
+    let seen = check(rt.alloc(), &["fsck", "disk.img"], 64, disk)?;
+    assert!(rt; ended(&seen, 2, b"refused 2 BadLog 2\n", 71));
     Ok(())
 }
 
@@ -124,8 +124,7 @@ fn bad_words(rt: HostRuntime) -> Result<(), Fail> {
     ];
     for words in lists {
         let seen = check(rt.alloc(), words, 64, zeros)?;
-        assert_eq!(rt; seen.status, 1);
-        assert_eq!(rt; seen.out.as_slice(), b"refused 1 BadWords\n".as_slice());
+        assert!(rt; ended(&seen, 1, b"refused 1 BadWords\n", 0));
         zeros = seen.dev;
     }
     Ok(())

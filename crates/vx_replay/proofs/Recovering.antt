@@ -1,5 +1,5 @@
 -- An image that was left clean, and one that needs a replay.
-use Rattle.std.proofs.Common.{◌≡◌, ℕ, ◌+◌, ◌<◌, ◌^◌, Bool, true, false, List, [], ◌∷◌, length, refl, sym, ap, subst, ◌∙◌, arith}
+use Rattle.std.proofs.Common.{◌≡◌, ℕ, ◌+◌, ◌*◌, ◌<◌, ◌^◌, Bool, true, false, List, [], ◌∷◌, length, refl, sym, ap, subst, ◌∙◌, arith}
 use Rattle.std.specs.Prelude.{◌==◌, ◌&&◌}
 use Rattle.std.proofs.lemmas.Bool.{eqb-true, eq-eqb}
 use Rattle.vx_layout.specs.declared.superblock.Super.{Super}
@@ -8,7 +8,8 @@ use Rattle.vx_layout.specs.Supers.{IsSuper, super_bytes, volume_of}
 use Rattle.vx_model.specs.Reads.{ImageReadsAs}
 use Rattle.vx_model.specs.Replays.{ReplaysAs, IsClean}
 use Rattle.vx_model.specs.Tree.{Tree}
-use Rattle.vx_replay.specs.Replayed.{IsCounted}
+use Rattle.vx_replay.specs.LogReads.{StandThere, AreRecords}
+use Rattle.vx_replay.specs.Replayed.{IsCounted, IsSettled}
 use Rattle.vx_replay.specs.Stopped.{IsReadFrom}
 use Rattle.vx_replay.specs.declared.load.Stopped.{Stopped}
 
@@ -52,6 +53,27 @@ module _ (size : ℕ) (image : ℕ → List ℕ) (s : Stopped) (is_super : IsSup
         tail = read.ends.tail;
         head_is = read.head_is ∙ ap (λ (p : ℕ). head_sector read.ends.serial read.ends.tail p) (sym even);
         reads = subst (λ (rs : List (List AfterImage)). ImageReadsAs (volume_of h.superblock) (λ q. overlay_all rs q (image q)) tree) none h.reads;
+      }
+
+  pub settled : ((v w : Super) → IsSuper v → IsSuper w → super_bytes v ≡ super_bytes w → v ≡ w) → (s.superblock.clean && (s.log.tail == s.log.head)) ≡ true → IsSettled size image
+  settled supers is =
+      let level : s.log.tail ≡ s.log.head = eqb-true s.log.tail s.log.head (both_second s.superblock.clean (s.log.tail == s.log.head) is) in
+      let even : read.ends.tail ≡ read.ends.head = sym read.tail ∙ level ∙ read.head in
+      let none : read.records ≡ [] = no_records read.ends.tail read.records (omega (arith, even, read.are.ends)) in
+      let there : image 0 ≡ super_bytes s.superblock = ap (λ (rs : List (List AfterImage)). overlay_all rs 0 (image 0)) (sym none) ∙ read.superblock_is in
+      let same : read.first ≡ s.superblock = supers read.first s.superblock read.is_first is_super (sym read.first_is ∙ there) in
+      let n : ℕ = 2 * read.first.log_blocks in
+      record {
+        first = read.first;
+        first_is = read.checked;
+        clean = ap (λ (v : Super). v.clean) same ∙ both_first s.superblock.clean (s.log.tail == s.log.head) is;
+        log = record {
+          ends = read.ends;
+          is_ends = read.is_ends;
+          head_is = read.head_is;
+          are = subst (AreRecords n size read.ends.tail read.ends.head) none read.are;
+          stand = subst (λ (rs : List (List AfterImage)). StandThere n image read.ends.tail (log_sectors read.ends.tail rs)) none read.stand;
+        };
       }
 
   needs : (rs : List (List AfterImage)) → s.log.head ≡ s.log.tail + length (log_sectors s.log.tail rs) → (s.superblock.clean && (s.log.tail == s.log.head)) ≡ false → s.superblock.clean ≡ true → 0 < length rs

@@ -1,5 +1,5 @@
 -- What a replay answers.
-use Rattle.std.specs.Prelude.{◌≡◌, ◌<◌, ℕ, true, List, length, Result, Ok, Err}
+use Rattle.std.specs.Prelude.{◌≡◌, ◌<◌, ℕ, true, List, [], length, Result, Ok, Err}
 use Rattle.vx_base.specs.Faults.{Rose}
 use Rattle.vx_dev.specs.Tape.{State}
 use Rattle.vx_layout.specs.LogForms.{AfterImage, overlay_all}
@@ -23,6 +23,13 @@ pub record IsCounted (size : ℕ) (image : ℕ → List ℕ) (records sectors : 
   pub is_last : IsSuper last
   pub last_is : overlay_all held 0 (image 0) ≡ super_bytes last
   pub needed : last.clean ≡ true → 0 < length held
+
+-- no record stands in the image's log, and its superblock is marked clean
+pub record IsSettled (size : ℕ) (image : ℕ → List ℕ) : Type 0 where
+  pub first : Super
+  pub first_is : first_super size image ≡ Ok first
+  pub clean : first.clean ≡ true
+  pub log : HasLog size image first []
 
 -- a fault is answered only where its count rose, and but for a write fault nothing was written
 abbrev pub Cause : State → State → ReplayRefusal → Type 0

@@ -6,7 +6,7 @@ ghost use Rattle.vx_model.specs.Replays.{ReplaysAs, IsClean, IsLeft};
 ghost use Rattle.vx_model.specs.Tree.{Tree};
 ghost use Rattle.vx_replay.specs.BadImages.{IsBadSuper, IsBadLog};
 ghost use Rattle.vx_replay.specs.LogReads.{Shows, IsRead};
-ghost use Rattle.vx_replay.specs.Replayed.{IsCounted, IsReplayRefusal};
+ghost use Rattle.vx_replay.specs.Replayed.{IsCounted, IsSettled, IsReplayRefusal};
 
 use crate::load::{Stopped, load};
 use crate::refusal::ReplayRefusal;
@@ -33,6 +33,7 @@ pub fn replay<D: BlockDev>(alloc: Global, dev: &mut D) -> Result<Recovered, Repl
     ensures left { (t : Tape) (tree : Tree) (records sectors : ℕ) → Shows (D.state dev.old) t → ReplaysAs (now t) tree → result ≡ Ok (Recovered.Replayed records sectors) → Told (D.state dev.new) (IsLeft tree) }
     ensures counted { (t : Tape) (records sectors : ℕ) → Shows (D.state dev.old) t → result ≡ Ok (Recovered.Replayed records sectors) → IsCounted (D.state dev.old).size (now t) records sectors }
     ensures clean { (t : Tape) (tree : Tree) → Shows (D.state dev.old) t → ReplaysAs (now t) tree → result ≡ Ok Recovered.Clean → IsClean (now t) tree }
+    ensures settled { (t : Tape) → Shows (D.state dev.old) t → result ≡ Ok Recovered.Clean → IsSettled (D.state dev.old).size (now t) }
     ensures unwritten { result ≡ Ok Recovered.Clean → IsRead (D.state dev.old) (D.state dev.new) }
     ensures bad_super { (t : Tape) (field : ℕ) → Shows (D.state dev.old) t → result ≡ Err (ReplayRefusal.BadSuper field) → IsBadSuper (D.state dev.old).size (now t) field }
     ensures bad_log { (t : Tape) (sector : ℕ) → Shows (D.state dev.old) t → result ≡ Err (ReplayRefusal.BadLog sector) → IsBadLog (D.state dev.old).size (now t) sector }

@@ -1,4 +1,4 @@
-use Rattle.std.proofs.Common.{refl, sym, ◌∙◌}
+use Rattle.std.proofs.Common.{sym, ◌∙◌}
 use Rattle.vx_admin.proofs.Ending.{reason_of}
 use Rattle.vx_admin.proofs.top.checked.Goals as goal
 
@@ -8,5 +8,5 @@ returns-in-Ok g c =
     record {
       words_are = sym c.are_words.ensures ∙ c.if-not-are_words.false;
       kept = e.kept;
-      cause = reason_of (g.D.BlockDev.state c.args.dev.now) (g.D.BlockDev.state c.replay.new.dev) c.replay.result e.left e.counted e.clean e.unwritten c.in-Ok.recovered c.in-Ok.is c.in-Ok.ensures.refused;
+      cause = reason_of (g.D.BlockDev.state c.args.dev.now) (g.D.BlockDev.state c.replay.new.dev) c.replay.result e.left e.counted e.clean e.settled e.unwritten c.in-Ok.recovered c.in-Ok.is c.in-Ok.ensures.refused;
     }

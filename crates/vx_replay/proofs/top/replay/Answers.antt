@@ -2,13 +2,18 @@ use Rattle.std.proofs.Common.{◌≡◌, ℕ, sym, subst, ◌∙◌}
 use Rattle.vx_dev.specs.Tape.{now}
 use Rattle.vx_replay.specs.Stopped.{IsReadFrom}
 use Rattle.vx_replay.proofs.LogReading.{still_shows}
-use Rattle.vx_replay.proofs.Recovering.{left_clean, counted}
+use Rattle.vx_replay.proofs.Recovering.{left_clean, settled, counted}
 use Rattle.vx_replay.proofs.top.replay.Goals as goal
 
 pub returns-then-is_clean-clause-clean : goal.returns-then-is_clean-clause-clean
 returns-then-is_clean-clause-clean g c = λ t tree shows replays is.
     left_clean (g.D.BlockDev.state c.args.dev.now).size (now t) c.in-Ok.stopped c.in-Ok.ensures.sound.superblock (c.in-Ok.ensures.read t shows) tree
     c.super_spelling.ensures.unique c.log_spelling.ensures.head replays (sym c.is_clean.ensures ∙ c.if-is_clean.true)
+
+pub returns-then-is_clean-clause-settled : goal.returns-then-is_clean-clause-settled
+returns-then-is_clean-clause-settled g c = λ t shows is.
+    settled (g.D.BlockDev.state c.args.dev.now).size (now t) c.in-Ok.stopped c.in-Ok.ensures.sound.superblock (c.in-Ok.ensures.read t shows)
+    c.super_spelling.ensures.unique (sym c.is_clean.ensures ∙ c.if-is_clean.true)
 
 pub returns-in-Ok-carry-clause-left : goal.returns-in-Ok-carry-clause-left
 returns-in-Ok-carry-clause-left g c = λ t tree records sectors shows replays is.
