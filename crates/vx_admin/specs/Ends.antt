@@ -1,15 +1,20 @@
--- How a check ends, and why.
-use Rattle.std.specs.Prelude.{◌≡◌, ◌+◌, ℕ, Bool, true, false, not, List, length, Option}
+-- How a check or a format ends, and why.
+use Rattle.std.specs.Prelude.{◌≡◌, ◌+◌, ◌<◌, ◌≤◌, ℕ, Bool, true, false, List, length, Option, Some, None}
 use Rattle.std.specs.Io.KnownBytes.{Appends}
 use Rattle.vx_admin.specs.declared.end.End.{End}
-use Rattle.vx_admin.specs.declared.end.End.TheVariants.{Done, BadWords, Refused}
+use Rattle.vx_admin.specs.declared.end.End.TheVariants.{Done, Made, BadWords, DeviceTooSmall, Refused}
+use Rattle.vx_admin.specs.declared.words.Ask.{Ask}
+use Rattle.vx_admin.specs.declared.words.Ask.TheVariants.{Fsck, Mkfs}
 use Rattle.vx_admin.specs.Output.{status_at, text_of}
-use Rattle.vx_admin.specs.Words.{are_words}
+use Rattle.vx_admin.specs.Words.{asked}
 use Rattle.vx_base.specs.Faults.{Rose}
 use Rattle.vx_dev.specs.Tape.{State, Tape, now}
+use Rattle.vx_layout.specs.Places.{sectors_of}
+use Rattle.vx_layout.specs.Supers.{volume_of}
 use Rattle.vx_log.specs.Moments.{Told, Always}
+use Rattle.vx_mkfs.specs.Formats.{IsOfSizes, clean_super}
 use Rattle.vx_model.specs.Replays.{ReplaysAs, IsClean, IsLeft}
-use Rattle.vx_model.specs.Tree.{Tree}
+use Rattle.vx_model.specs.Tree.{Tree, empty_root}
 use Rattle.vx_replay.specs.BadImages.{IsBadSuper, IsBadLog}
 use Rattle.vx_replay.specs.LogReads.{Shows, IsRead}
 use Rattle.vx_replay.specs.Replayed.{IsCounted, IsSettled}
@@ -40,26 +45,57 @@ pub record IsRefusedLog (old new : State) (sector : ℕ) : Type 0 where
   pub read : IsRead old new
   pub why : (t : Tape) → Shows old t → IsBadLog old.size (now t) sector
 
+-- the sectors that a file system of these sizes takes
+abbrev pub sectors_wanted : (units log_blocks : ℕ) → ℕ
+sectors_wanted units log_blocks = sectors_of (volume_of (clean_super log_blocks units))
+
+-- No write failed. A crash leaves one image: it is clean, its superblock says these sizes, and it reads as the root alone.
+pub record IsMade (old new : State) (units log_blocks : ℕ) : Type 0 where
+  pub fine : new.write_faults ≡ old.write_faults
+  pub left : Told new (IsLeft empty_root)
+  pub sizes : Told new (IsOfSizes log_blocks units)
+
 -- what each end says of the device before and after
 abbrev pub HasCause : State → State → End → Type 0
 HasCause old new (Done Clean) = IsFoundClean old new
 HasCause old new (Done (Replayed records sectors)) = IsCarried old new records sectors
+HasCause old new (Made units log_blocks) = IsMade old new units log_blocks
 HasCause old new BadWords = new ≡ old
+HasCause old new (DeviceTooSmall have want) = new ≡ old
 HasCause old new (Refused (no.BadSuper field)) = IsRefusedSuper old new field
 HasCause old new (Refused (no.BadLog sector)) = IsRefusedLog old new sector
 HasCause old new (Refused no.ReadFault) = IsRead old new × Rose old.read_faults new.read_faults
 HasCause old new (Refused no.WriteFault) = Rose old.write_faults new.write_faults
 HasCause old new (Refused no.NoMemory) = IsRead old new
 
-abbrev pub is_bad_words : End → Bool
-is_bad_words BadWords = true
-is_bad_words _ = false
+-- a check is done or refused
+abbrev pub EndsCheck : End → Type 0
+EndsCheck (Done found) = Unit
+EndsCheck (Refused why) = Unit
+EndsCheck _ = ⊥
 
--- The words decide whether the image is looked at. However it ends, from the first barrier on every image that a crash leaves
--- replays as the tree as which the image replayed before.
+-- a format of these sizes is made, or a write fails, exactly where a device of so many sectors has room for it
+abbrev pub EndsFormat : (size units log_blocks : ℕ) → End → Type 0
+EndsFormat size units log_blocks (Made u l) = (u ≡ units) × (l ≡ log_blocks) × (sectors_wanted units log_blocks ≤ size)
+EndsFormat size units log_blocks (DeviceTooSmall have want) = (have ≡ size) × (want ≡ sectors_wanted units log_blocks) × (have < want)
+EndsFormat size units log_blocks (Refused no.WriteFault) = sectors_wanted units log_blocks ≤ size
+EndsFormat size units log_blocks _ = ⊥
+
+-- the ends that may come of what was asked, on a device of so many sectors
+abbrev pub MayEnd : (size : ℕ) → Option Ask → End → Type 0
+MayEnd size None end = end ≡ BadWords
+MayEnd size (Some Fsck) end = EndsCheck end
+MayEnd size (Some (Mkfs units log_blocks)) end = EndsFormat size units log_blocks end
+
+-- from the first barrier on every image that a crash leaves replays as the tree as which the image replayed before
+abbrev pub Keeps : State → State → Type 0
+Keeps old new =
+    (t : Tape) (tree : Tree) → Shows old t → ReplaysAs (now t) tree → Told new (Always (length t.ops + 1) (λ _ image. ReplaysAs image tree))
+
+-- The words decide how it may end, and each end has its cause. However a check ends, the tree is kept.
 pub record HasEnded (words : List (List ℕ)) (old new : State) (end : End) : Type 0 where
-  pub words_are : are_words words ≡ not (is_bad_words end)
-  pub kept : (t : Tape) (tree : Tree) → Shows old t → ReplaysAs (now t) tree → Told new (Always (length t.ops + 1) (λ _ image. ReplaysAs image tree))
+  pub words_are : MayEnd old.size (asked words) end
+  pub kept : asked words ≡ Some Fsck → Keeps old new
   pub cause : HasCause old new end
 
 -- what a sink took before and after, and its faults
@@ -74,7 +110,7 @@ abbrev pub Takes : Taking → List ℕ → Bool → Type 0
 Takes t text true = Appends t.before t.now text × (t.faults ≡ t.faults_before)
 Takes t text false = AppendsPrefix t.before t.now text × Rose t.faults_before t.faults
 
--- what is known of every check
+-- what is known of every check and every format
 pub record IsAdministered (words : List (List ℕ)) (old new : State) (t : Taking) (status : ℕ) : Type 0 where
   pub end : End
   pub written : Bool

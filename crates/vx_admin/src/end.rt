@@ -1,15 +1,25 @@
-//! How a check ends.
+//! How it ends.
 ghost use Rattle.std.specs.Prelude.{◌≡◌};
 ghost use Rattle.vx_admin.specs.Output.{status_of, status_at};
 
 use vx_replay::{Recovered, ReplayRefusal};
 
-/// How a check ends.
+/// How a check or a format ends.
 #[derive(Clone, Copy, Debug)]
 pub enum End {
     Done(Recovered),
+    /// A new file system of so many allocation units, with a log of so many blocks.
+    Made {
+        units: u32,
+        log_blocks: u32,
+    },
     /// The words of the command line.
     BadWords,
+    /// The sectors that the device has, and those that a file system of these sizes wants.
+    DeviceTooSmall {
+        have: u64,
+        want: u64,
+    },
     Refused(ReplayRefusal),
 }
 
@@ -19,8 +29,9 @@ impl End {
         ensures { result ≡ status_of self.now }
     {
         match self {
-            End::Done(_) => 0,
+            End::Done(_) | End::Made { .. } => 0,
             End::BadWords => 1,
+            End::DeviceTooSmall { .. } => 2,
             End::Refused(
                 ReplayRefusal::BadSuper { field: _ } | ReplayRefusal::BadLog { sector: _ },
             ) => { 2 }
@@ -35,7 +46,7 @@ impl End {
         ensures { result ≡ status_at self.now written }
     {
         match self {
-            End::Done(_) if !written => 5,
+            End::Done(_) | End::Made { .. } if !written => 5,
             _ => self.status(),
         }
     }

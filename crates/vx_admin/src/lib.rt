@@ -1,4 +1,4 @@
-//! The check of an image, from its words to the line that is printed.
+//! The check of an image and the making of one, from the words to the line that is printed.
 #![tactic(auto)]
 
 mod end;

@@ -1,10 +1,10 @@
-//! The line that a check prints.
+//! The line that is printed.
 ghost use Rattle.std.specs.Prelude.{◌≡◌, [], OnOk, OnErr, map, decimal};
 ghost use Rattle.std.specs.Io.KnownBytes.{Appends};
 ghost use Rattle.vx_base.specs.Faults.{HasCause};
 ghost use Rattle.vx_script.specs.Puts.{AppendsPrefix, Puts};
 ghost use Rattle.vx_script.specs.Words.{spaced_list};
-ghost use Rattle.vx_admin.specs.Output.{name_of, fields_of, replayed_line, refused_line, text_of};
+ghost use Rattle.vx_admin.specs.Output.{name_of, fields_of, replayed_line, made_line, refused_line, text_of};
 
 use crate::end::End;
 use vx_base::{Sink, SinkFault};
@@ -41,6 +41,7 @@ fn put_text<K: Sink>(out: &mut K, buffer: &mut TextBuffer, end: &End) -> Result<
         End::Done(Recovered::Replayed { records, sectors }) => {
             put_replayed_line(out, buffer, *records, *sectors)
         }
+        End::Made { units, log_blocks } => put_made_line(out, buffer, *units, *log_blocks),
         End::Refused(ReplayRefusal::NoMemory) => Ok(()),
         _ => put_refused_line(out, buffer, end),
     }
@@ -67,6 +68,26 @@ fn put_replayed_line<K: Sink>(
     put(out, buffer, b"\n")
 }
 
+fn put_made_line<K: Sink>(
+    out: &mut K,
+    buffer: &mut TextBuffer,
+    units: u32,
+    log_blocks: u32,
+) -> Result<(), SinkFault>
+    ensures { Puts K.taken K.fault_count out.old out.new buffer.old buffer.new result (made_line units log_blocks) }
+{
+    put(out, buffer, b"made")?;
+    put_words(
+        out,
+        buffer,
+        &[
+            Word::Number(units as u64),
+            Word::Number(log_blocks as u64),
+        ],
+    )?;
+    put(out, buffer, b"\n")
+}
+
 fn put_refused_line<K: Sink>(
     out: &mut K,
     buffer: &mut TextBuffer,
@@ -85,6 +106,9 @@ fn put_fields<K: Sink>(out: &mut K, buffer: &mut TextBuffer, end: &End) -> Resul
     ensures { Puts K.taken K.fault_count out.old out.new buffer.old buffer.new result (spaced_list (map decimal (fields_of end.now))) }
 {
     match end {
+        End::DeviceTooSmall { have, want } => {
+            put_words(out, buffer, &[Word::Number(*have), Word::Number(*want)])
+        }
         End::Refused(ReplayRefusal::BadSuper { field }) => {
             put_words(out, buffer, &[Word::Number(*field as u64)])
         }
@@ -100,8 +124,9 @@ fn name(end: &End) -> &'static [u8]
     ensures { result.now ≡ name_of end.now }
 {
     match end {
-        End::Done(_) => b"",
+        End::Done(_) | End::Made { .. } => b"",
         End::BadWords => b"BadWords",
+        End::DeviceTooSmall { .. } => b"DeviceTooSmall",
         End::Refused(ReplayRefusal::BadSuper { field: _ }) => b"BadSuper",
         End::Refused(ReplayRefusal::BadLog { sector: _ }) => b"BadLog",
         End::Refused(ReplayRefusal::ReadFault) => b"ReadFault",

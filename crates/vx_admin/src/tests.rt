@@ -1,4 +1,4 @@
-//! Checks of images in memory.
+//! Checks and formats of images in memory.
 ghost use Rattle.std.specs.Prelude.{◌≡◌, IfOk, length};
 
 use crate::{AdminDone, admin};
@@ -23,6 +23,12 @@ fn disk(alloc: Global, fail_writes: &[u64], fail_reads: &[u64]) -> Result<MemDis
         NumList::from_slice(alloc, fail_writes)?,
         NumList::from_slice(alloc, fail_reads)?,
     )
+}
+
+/// A disk of so many sectors of zeros, without faults.
+fn zeros_of(alloc: Global, sectors: u64) -> Result<MemDisk, AllocError> {
+    let image = Image::zeroed(alloc, sectors)?;
+    MemDisk::new(alloc, image, 200, NumList::new(alloc), NumList::new(alloc))
 }
 
 /// A new file system with one transaction, which is not unmounted.
@@ -115,12 +121,55 @@ fn no_head_sector(rt: HostRuntime) -> Result<(), Fail> {
 }
 
 #[test]
+fn make_and_check(rt: HostRuntime) -> Result<(), Fail> {
+    let zeros = zeros_of(rt.alloc(), 9_220)?;
+    let made = check(rt.alloc(), &["mkfs", "disk.img"], 64, zeros)?;
+    assert!(rt; ended(&made, 0, b"made 1 512\n", 70));
+    let seen = check(rt.alloc(), &["fsck", "disk.img"], 64, made.dev)?;
+    assert!(rt; ended(&seen, 0, b"clean\n", 70));
+    Ok(())
+}
+
+#[test]
+fn one_sector_too_few(rt: HostRuntime) -> Result<(), Fail> {
+    let zeros = zeros_of(rt.alloc(), 9_219)?;
+    let seen = check(rt.alloc(), &["mkfs", "disk.img"], 64, zeros)?;
+    assert!(rt; ended(&seen, 2, b"refused 2 DeviceTooSmall 9219 9220\n", 0));
+    Ok(())
+}
+
+#[test]
+fn two_units(rt: HostRuntime) -> Result<(), Fail> {
+    let words: &[&str] = &["mkfs", "disk.img", "--units", "2", "--log", "256"];
+    let zeros = zeros_of(rt.alloc(), 16_900)?;
+    let made = check(rt.alloc(), words, 64, zeros)?;
+    assert!(rt; ended(&made, 0, b"made 2 256\n", 136));
+    let turned: &[&str] = &["mkfs", "disk.img", "--log", "256", "--units", "2"];
+    let small = zeros_of(rt.alloc(), 16_899)?;
+    let seen = check(rt.alloc(), turned, 64, small)?;
+    assert!(rt; ended(&seen, 2, b"refused 2 DeviceTooSmall 16899 16900\n", 0));
+    Ok(())
+}
+
+/// The seventieth operation, which is the last barrier, fails.
+#[test]
+fn failing_format(rt: HostRuntime) -> Result<(), Fail> {
+    let zeros = disk(rt.alloc(), &[70], &[])?;
+    let seen = check(rt.alloc(), &["mkfs", "disk.img"], 64, zeros)?;
+    assert!(rt; ended(&seen, 4, b"refused 4 WriteFault\n", 69));
+    Ok(())
+}
+
+#[test]
 fn bad_words(rt: HostRuntime) -> Result<(), Fail> {
     let mut zeros = disk(rt.alloc(), &[], &[])?;
-    let lists: [&[&str]; 3] = [
+    let lists: [&[&str]; 6] = [
         &["fsck"],
-        &["mkfs", "disk.img"],
-        &["fsck", "disk.img", "-n"],
+        &["label", "disk.img"],
+        &["fsck", "disk.img", "--log", "512"],
+        &["mkfs", "disk.img", "--units"],
+        &["mkfs", "disk.img", "--units", "65"],
+        &["mkfs", "disk.img", "--log", "512", "--units", "02"],
     ];
     for words in lists {
         let seen = check(rt.alloc(), words, 64, zeros)?;

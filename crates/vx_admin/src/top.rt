@@ -2,23 +2,28 @@
 ghost use Rattle.std.specs.Prelude.{◌≡◌, map};
 ghost use Rattle.std.specs.String.{string_bytes};
 ghost use Rattle.vx_dev.specs.Tape.{State};
-ghost use Rattle.vx_admin.specs.Ends.{HasEnded, IsAdministered};
+ghost use Rattle.vx_layout.specs.Supers.{IsSuper};
+ghost use Rattle.vx_mkfs.specs.Formats.{clean_super};
+ghost use Rattle.vx_admin.specs.Ends.{EndsCheck, EndsFormat, Keeps, HasCause, HasEnded, IsAdministered};
 
 use crate::end::End;
 use crate::output::render;
-use crate::words::are_words;
+use crate::words::{Ask, asked};
 use std::alloc::Global;
 use vx_base::Sink;
-use vx_dev::BlockDev;
-use vx_replay::replay;
+use vx_dev::{BlockDev, DevFault};
+use vx_layout::sectors_needed;
+use vx_mkfs::make;
+use vx_replay::{ReplayRefusal, replay};
 
-/// How a check ended: the exit status, and the device.
+/// How it ended: the exit status, and the device.
 pub struct AdminDone<D> {
     pub status: u8,
     pub dev: D,
 }
 
-/// Replays the log of a stopped image, where the words are `fsck IMAGE`, and writes a line that says what was found.
+/// Replays the log of a stopped image, where the words are `fsck IMAGE`, or writes a new file system, where they are `mkfs IMAGE` and
+/// the sizes, and writes a line that says how it ended.
 ///
 /// The exit statuses and the lines are those of docs/OUTPUT.md. A status of 1, 2, 6 or 8 leaves the device's operations as they were.
 pub fn admin<D: BlockDev, K: Sink>(
@@ -31,7 +36,7 @@ pub fn admin<D: BlockDev, K: Sink>(
         (record { before = K.taken out.old; now = K.taken out.new; faults_before = K.fault_count out.old; faults = K.fault_count out.new })
         result.status }
 {
-    let end = checked(alloc, words, &mut dev);
+    let end = ended(alloc, words, &mut dev);
     let written = render(&end, out).is_ok();
     AdminDone {
         status: end.status_at(written),
@@ -40,14 +45,41 @@ pub fn admin<D: BlockDev, K: Sink>(
 }
 
 /// Does all but the output.
-fn checked<D: BlockDev>(alloc: Global, words: &[String], dev: &mut D) -> End
+fn ended<D: BlockDev>(alloc: Global, words: &[String], dev: &mut D) -> End
     ensures { HasEnded (map string_bytes words.now) (D.state dev.old) (D.state dev.new) result }
 {
-    if !are_words(words) {
-        return End::BadWords;
+    match asked(words) {
+        None => End::BadWords,
+        Some(Ask::Fsck) => checked(alloc, dev),
+        Some(Ask::Mkfs { units, log_blocks }) => formatted(dev, units, log_blocks),
     }
+}
+
+/// Replays the log of a stopped image.
+fn checked<D: BlockDev>(alloc: Global, dev: &mut D) -> End
+    ensures ends { EndsCheck result }
+    ensures kept { Keeps (D.state dev.old) (D.state dev.new) }
+    ensures cause { HasCause (D.state dev.old) (D.state dev.new) result }
+{
     match replay(alloc, dev) {
         Ok(recovered) => End::Done(recovered),
         Err(why) => End::Refused(why),
+    }
+}
+
+/// Writes a new file system, where the device has room for it.
+fn formatted<D: BlockDev>(dev: &mut D, units: u32, log_blocks: u32) -> End
+    requires { IsSuper (clean_super log_blocks units) }
+    ensures ends { EndsFormat (D.state dev.old).size units log_blocks result }
+    ensures cause { HasCause (D.state dev.old) (D.state dev.new) result }
+{
+    let have = dev.sectors();
+    let want = sectors_needed(log_blocks, units);
+    if have < want {
+        return End::DeviceTooSmall { have, want };
+    }
+    match make(dev, log_blocks, units) {
+        Ok(()) => End::Made { units, log_blocks },
+        Err(DevFault) => End::Refused(ReplayRefusal::WriteFault),
     }
 }
