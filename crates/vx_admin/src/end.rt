@@ -9,17 +9,11 @@ use vx_replay::{Recovered, ReplayRefusal};
 pub enum End {
     Done(Recovered),
     /// A new file system of so many allocation units, with a log of so many blocks.
-    Made {
-        units: u32,
-        log_blocks: u32,
-    },
+    Made { units: u32, log_blocks: u32 },
     /// The words of the command line.
     BadWords,
     /// The sectors that the device has, and those that a file system of these sizes wants.
-    DeviceTooSmall {
-        have: u64,
-        want: u64,
-    },
+    DeviceTooSmall { have: u64, want: u64 },
     Refused(ReplayRefusal),
 }
 

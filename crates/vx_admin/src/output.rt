@@ -80,10 +80,7 @@ fn put_made_line<K: Sink>(
     put_words(
         out,
         buffer,
-        &[
-            Word::Number(units as u64),
-            Word::Number(log_blocks as u64),
-        ],
+        &[Word::Number(units as u64), Word::Number(log_blocks as u64)],
     )?;
     put(out, buffer, b"\n")
 }
