@@ -1,4 +1,4 @@
-//! `vxadm`: checks an image file, replays its log, and prints what it found.
+//! `vxadm`: checks an image file and replays its log, or makes a file system in it, and prints how that ended.
 #![tactic(auto)]
 
 use std::fs::{File, OpenOptions};
