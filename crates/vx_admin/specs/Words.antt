@@ -41,17 +41,17 @@ with_one name word =
     else None
 
 -- both options, in either order
-unfoldable pub with_two : (name word name2 word2 : List ℕ) → Option Ask
-with_two name word name2 word2 =
-    if bytes_eq name (codes "--units") && bytes_eq name2 (codes "--log") then mkfs_of (units_in word) (log_blocks_in word2)
-    else if bytes_eq name (codes "--log") && bytes_eq name2 (codes "--units") then mkfs_of (units_in word2) (log_blocks_in word)
+unfoldable pub with_two : (name word second_name second_word : List ℕ) → Option Ask
+with_two name word second_name second_word =
+    if bytes_eq name (codes "--units") && bytes_eq second_name (codes "--log") then mkfs_of (units_in word) (log_blocks_in second_word)
+    else if bytes_eq name (codes "--log") && bytes_eq second_name (codes "--units") then mkfs_of (units_in second_word) (log_blocks_in word)
     else None
 
 -- [--units N] [--log N], in either order
 unfoldable pub sizes_asked : List (List ℕ) → Option Ask
 sizes_asked [] = Some (Mkfs 1 512)
 sizes_asked (name ∷ word ∷ []) = with_one name word
-sizes_asked (name ∷ word ∷ name2 ∷ word2 ∷ []) = with_two name word name2 word2
+sizes_asked (name ∷ word ∷ second_name ∷ second_word ∷ []) = with_two name word second_name second_word
 sizes_asked _ = None
 
 -- nothing stands behind the image

@@ -65,11 +65,11 @@ fn sizes_asked(options: &[String]) -> Option<Ask>
             log_blocks: LOG_BLOCKS,
         }),
         [name, word] => with_one(name.as_bytes(), word.as_bytes()),
-        [name, word, name2, word2] => with_two(
+        [name, word, second_name, second_word] => with_two(
             name.as_bytes(),
             word.as_bytes(),
-            name2.as_bytes(),
-            word2.as_bytes(),
+            second_name.as_bytes(),
+            second_word.as_bytes(),
         ),
         _ => None,
     }
@@ -92,14 +92,14 @@ fn with_one(name: &[u8], word: &[u8]) -> Option<Ask>
 
 /// Both options, in either order.
 #[tactic(auto, unfolding(crate::specs::Words::with_two))]
-fn with_two(name: &[u8], word: &[u8], name2: &[u8], word2: &[u8]) -> Option<Ask>
-    ensures exact { result ≡ with_two name.now word.now name2.now word2.now }
+fn with_two(name: &[u8], word: &[u8], second_name: &[u8], second_word: &[u8]) -> Option<Ask>
+    ensures exact { result ≡ with_two name.now word.now second_name.now second_word.now }
     ensures sizes { IfSome result IsAsk }
 {
-    if name == b"--units".as_slice() && name2 == b"--log".as_slice() {
-        mkfs(units_in(word), log_blocks_in(word2))
-    } else if name == b"--log".as_slice() && name2 == b"--units".as_slice() {
-        mkfs(units_in(word2), log_blocks_in(word))
+    if name == b"--units".as_slice() && second_name == b"--log".as_slice() {
+        mkfs(units_in(word), log_blocks_in(second_word))
+    } else if name == b"--log".as_slice() && second_name == b"--units".as_slice() {
+        mkfs(units_in(second_word), log_blocks_in(word))
     } else {
         None
     }
