@@ -47,6 +47,10 @@ taken_index per_unit room free pending index index' free_count pending_count fro
     | inr out ↦ is.placed i (sym (get_or-cleared_out free from n i (λ low. still_out i out low)) ∙ bit)
   ];
   pending_placed = is.pending_placed;
+  apart = λ i bit. elim (is_within_cases from n i) [
+    | inl inside ↦ absurd (both_ways _ (get_or-cleared_in free from n i inside.0 inside.1) bit)
+    | inr out ↦ is.apart i (sym (get_or-cleared_out free from n i (λ low. still_out i out low)) ∙ bit)
+  ];
   counted = let count : free_count ≡ count_by is_set free = is.counted in let fewer : count_by is_set (cleared free from n) + n ≡ count_by is_set free = count_cleared free from n fits all in omega arith;
   pending_counted = is.pending_counted;
 }
@@ -106,6 +110,15 @@ module _ (p u w : ℕ) (free : List Bool) (bits : length free ≡ 4096 * u) (mor
       | inl below ↦ is.pending_placed i (sym (ap is_some (get_or_append_left pending (replicate (4096 * (w - u)) None) None i (omega arith))) ∙ some)
       | inr from ↦ absurd (both_ways _ (ap is_some (get_or-append_right pending (replicate (4096 * (w - u)) None) (4096 * u) i None places from ∙ none_there (4096 * (w - u)) (i - 4096 * u))) some)
     ];
+    apart = λ i bit. elim (cases_lt i (4096 * u)) [
+      | inl below ↦
+          let at : is_some (get_or (pending ++ replicate (4096 * (w - u)) None) i None) ≡ is_some (get_or pending i None) = ap is_some (get_or_append_left pending (replicate (4096 * (w - u)) None) None i (omega arith)) in
+          elim (or_cases _ _ (sym (grown_bit i) ∙ bit)) [
+            | inl old ↦ at ∙ is.apart i old
+            | inr new ↦ absurd (both_ways _ (lt-leb (4096 * u) i below) (and_parts (leb (4096 * u) i) (ltb i (4096 * w)) (and_parts (leb (4096 * u) i && ltb i (4096 * w)) (is_data_place p i) new).0).0)
+          ]
+      | inr from ↦ ap is_some (get_or-append_right pending (replicate (4096 * (w - u)) None) (4096 * u) i None places from ∙ none_there (4096 * (w - u)) (i - 4096 * u))
+    ];
     counted = counted;
     pending_counted = pending_counted;
   }
@@ -125,6 +138,10 @@ before_some upto (Some n) is = refl
 kept_some : (upto : ℕ) (place : Option ℕ) → is_some (cond (is_before upto place) None place) ≡ true → is_some place ≡ true
 kept_some upto None is = is
 kept_some upto (Some n) is = refl
+
+not_kept : (b : Bool) (place : Option ℕ) → is_some place ≡ false → is_some (cond b nothing place) ≡ false
+not_kept true place none = refl
+not_kept false place none = none
 
 past_end : (xs : List Bool) (i : ℕ) → get_or xs i false ≡ true → i < length xs
 past_end xs i bit = elim (cases_lt i (length xs)) [
@@ -162,6 +179,19 @@ released_index upto per_unit room free_count pending_count free_count' pending_c
       let long : length pending' ≡ length pending = ap length pending_is ∙ length-still_pending upto pending in
       let at : get_or pending' i None ≡ cond (is_before upto (get_or pending i None)) None (get_or pending i None) = ap (λ (places : List (Option ℕ)). get_or places i None) pending_is ∙ get_or-map (λ place. cond (is_before upto place) None place) pending i None None (omega arith) in
       is.pending_placed i (kept_some upto (get_or pending i None) (sym (ap is_some at) ∙ some));
+  apart = λ i bit.
+      let within : i < length free' = past_end free' i bit in
+      let long : length free' ≡ length free = ap length free_is ∙ length-free_with upto pending free in
+      let free_at : get_or free' i false ≡ is_before upto (get_or pending i None) || get_or free i false = ap (λ (bits : List Bool). get_or bits i false) free_is ∙ get_or-map-range_with_len (λ k. is_before upto (get_or pending k None) || get_or free k false) 0 (length free) i i false (omega arith) (omega arith) in
+      elim (cases_lt i (length pending)) [
+        | inr past ↦ ap is_some (get_or_past pending' i None (let as_many : length pending' ≡ length pending = ap length pending_is ∙ length-still_pending upto pending in omega arith))
+        | inl there ↦
+            let at : get_or pending' i None ≡ cond (is_before upto (get_or pending i None)) None (get_or pending i None) = ap (λ (places : List (Option ℕ)). get_or places i None) pending_is ∙ get_or-map (λ place. cond (is_before upto place) None place) pending i None None there in
+            ap is_some at ∙ elim (or_cases _ _ (sym free_at ∙ bit)) [
+              | inl due ↦ ap (λ (b : Bool). is_some (cond b nothing (get_or pending i None))) due
+              | inr old ↦ not_kept (is_before upto (get_or pending i None)) (get_or pending i None) (is.apart i old)
+            ]
+      ];
   counted = counted;
   pending_counted = pending_counted;
 }

@@ -46,9 +46,9 @@ is_free view b = is_data view b && (not (is_barred view b) && is_in_set view b)
 abbrev pub place_of : FreeMapView → ℕ → Option ℕ
 place_of view b = slice_index_or view.pending (b - view.first) None
 
--- a data block that is neither free nor pending
+-- a data block that is neither in the set of free blocks nor pending; whether it is barred makes no difference
 abbrev pub is_used : FreeMapView → ℕ → Bool
-is_used view b = is_data view b && (not (is_free view b) && not (is_some (place_of view b)))
+is_used view b = is_data view b && (not (is_in_set view b) && not (is_some (place_of view b)))
 
 -- how many of the numbers below n pass a test
 abbrev pub count_below : (ℕ → Bool) → ℕ → ℕ

@@ -172,5 +172,7 @@ pub record IsIndexed (per_unit room : ℕ) (free : List Bool) (pending : List (O
   pub blocks : index.room ≡ 4096 * room
   pub placed : (i : ℕ) → slice_index_or free i false ≡ true → is_data_place per_unit i ≡ true
   pub pending_placed : (i : ℕ) → is_some (slice_index_or pending i None) ≡ true → is_data_place per_unit i ≡ true
+  -- no block is free and waits to be
+  pub apart : (i : ℕ) → slice_index_or free i false ≡ true → is_some (slice_index_or pending i None) ≡ false
   pub counted : free_count ≡ count_by (λ bit. bit) free
   pub pending_counted : pending_count ≡ count_by is_some pending

@@ -156,15 +156,15 @@ impl FreeMap {
         self.free[offset as usize]
     }
 
-    /// Whether a block is a data block that is neither free nor pending.
+    /// Whether a block is a data block that is neither free, barred or not, nor pending.
     pub fn is_used(&self, b: Block) -> bool
         ensures { result ≡ is_used self.now b }
     {
-        if !self.is_data(b) || self.is_free(b) {
+        if !self.is_data(b) {
             return false;
         }
-        let offset = b.get() - self.first;
-        self.pending[offset as usize].is_none()
+        let offset = (b.get() - self.first) as usize;
+        !self.free[offset] && self.pending[offset].is_none()
     }
 
     /// How many blocks are free and not barred.
@@ -258,16 +258,12 @@ impl FreeMap {
         self.free_count -= 1;
     }
 
-    /// Makes a used block free.
+    /// Makes a used block free. It counts as free once its unit is not barred.
     pub fn give(&mut self, b: Block)
         requires { IsTrue (is_used self.old b) }
         ensures { self.new ≡ with_bit self.old b true }
     {
         let offset = b.get() - self.first;
-        // A barred block that is free counts as used.
-        if self.free[offset as usize] {
-            return;
-        }
         self.free[offset as usize] = true;
         self.runs.add(offset, 1);
         self.free_count += 1;

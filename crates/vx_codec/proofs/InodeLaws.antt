@@ -1,8 +1,8 @@
 -- What is spelled as an inode is read again, and what is read is spelled so.
 use Rattle.std.proofs.Common.{◌≡◌, ℕ, zero, suc, ◌+◌, ◌*◌, ◌<◌, ◌^◌, Bool, true, false, cond, Option, Some, None, List, [], ◌∷◌, ◌++◌, length, drop, get_or, replicate, refl, sym, ap, subst, ◌∙◌, arith, length-append, append_assoc}
-use Rattle.std.specs.Prelude.{◌==◌, nat_lt, unwrap_or, is_some, IfSome}
+use Rattle.std.specs.Prelude.{◌==◌, ◌&&◌, nat_lt, nat_le, unwrap_or, is_some, IfSome}
 use Rattle.std.specs.Int.{Width, w16, w32, w64, from_le_bytes, to_le_bytes}
-use Rattle.std.specs.List.{flat_map}
+use Rattle.std.specs.List.{flat_map, list_all}
 use Rattle.std.proofs.lemmas.Slice.Eq.{bytes_eq-Decides}
 use Rattle.std.proofs.lemmas.Nat.{from_le_bytes-to_le_bytes_2, from_le_bytes-to_le_bytes_4, from_le_bytes-to_le_bytes_8}
 use Rattle.std.proofs.lemmas.Bool.{and_parts, le-ltb, lt-ltb, ltb-true, ltb-false}
@@ -15,7 +15,7 @@ use Rattle.vx_base.specs.declared.inode.Extent.{Extent}
 use Rattle.vx_base.specs.declared.inode.InodeValue.{InodeValue}
 use Rattle.vx_base.specs.declared.geom.Geom.{Geom}
 use Rattle.vx_layout.specs.Fields.{number_at}
-use Rattle.vx_layout.specs.Inodes.{kind_number, kind_from, file_kind_number, file_kind_from, extent_bytes, extent_at, place_bytes, place_at, places_at, inode_head, inode_bytes, inode_at, inode_fits, slot_bytes, slot_at, IsExtent, IsPlace, ArePlaces, IsInode, IsSlot}
+use Rattle.vx_layout.specs.Inodes.{kind_number, kind_from, file_kind_number, file_kind_from, extent_bytes, extent_at, place_bytes, place_at, places_at, inode_head, inode_bytes, inode_at, inode_fits, has_length, place_has_length, is_map_number, extents_limit, maps_needed, attrs_fit, slot_bytes, slot_at, IsExtent, IsPlace, ArePlaces, IsInode, IsSlot}
 use Rattle.vx_layout.proofs.Numbers.{IsBytes, IsBytes-drop}
 use Rattle.vx_layout.proofs.Lists.{zeros_from}
 use Rattle.vx_codec.proofs.Lengths.{length-head}
@@ -84,9 +84,9 @@ map_again : (o : Option ℕ) (m : ℕ) → is_some o ≡ nat_lt 0 m → cond (na
 map_again None m h = rw (← h) refl
 map_again (Some b) m h = rw (← h) refl
 
-pub below : (o : Option ℕ) → IfSome o (λ b. b < 2 ^ 32) → unwrap_or o 0 < 2 ^ 32
+pub below : (o : Option ℕ) → IfSome o (λ b. (0 < b) × (b < 2 ^ 32)) → unwrap_or o 0 < 2 ^ 32
 below None h = omega arith
-below (Some b) h = h
+below (Some b) h = h.1
 
 -- ---- the whole
 
@@ -107,7 +107,7 @@ first_again v six is =
     let P : ℕ → Type 0 = λ k. places_from v.extents 0 32 k (inode_head v ++ (first_of v ++ rest_of v)) ≡ v.first in
     ap (places_at v.extents 32) (behind_head v) ∙ subst P six (places_again v.extents 0 32 v.first (inode_head v) (rest_of v) (length-head v) is)
 
-block_again : (v : InodeValue) → length v.first ≡ 6 → IfSome v.map (λ b. b < 2 ^ 32) → number_at w32 128 (inode_bytes v) ≡ unwrap_or v.map 0
+block_again : (v : InodeValue) → length v.first ≡ 6 → IfSome v.map (λ b. (0 < b) × (b < 2 ^ 32)) → number_at w32 128 (inode_bytes v) ≡ unwrap_or v.map 0
 unfolding number_at
 block_again v six fits =
     let long : length (inode_head v ++ first_of v) ≡ 128 = omega (arith, length-append (inode_head v) (first_of v), length-head v, length-places v.first) in
@@ -160,19 +160,29 @@ below_64 at s fits =
     let h = IsBytes-drop at s fits in
     omega (arith, h 0, h 1, h 2, h 3, h 4, h 5, h 6, h 7)
 
-pub is_extent : (at : ℕ) (s : List ℕ) → IsBytes s → IsExtent (extent_at at s)
-is_extent at s fits = record { page = below_32 at s fits; start = below_32 (at + 4) s fits; len = below_32 (at + 8) s fits }
+pub is_extent : (at : ℕ) (s : List ℕ) → IsBytes s → has_length (extent_at at s) ≡ true → IsExtent (extent_at at s)
+is_extent at s fits some = record { page = below_32 at s fits; start = below_32 (at + 4) s fits; some = ltb-true 0 (number_at w32 (at + 8) s) some; len = below_32 (at + 8) s fits }
 
-chosen_place : (n i at : ℕ) (s : List ℕ) (b : Bool) → IsBytes s → nat_lt i n ≡ b → IsPlace n i (cond b (Some (extent_at at s)) None)
-chosen_place n i at s true fits e = (ltb-true i n e, is_extent at s fits)
-chosen_place n i at s false fits e = ltb-false i n e
+chosen_place : (n i at : ℕ) (s : List ℕ) (b : Bool) → IsBytes s → nat_lt i n ≡ b → place_has_length (cond b (Some (extent_at at s)) None) ≡ true → IsPlace n i (cond b (Some (extent_at at s)) None)
+chosen_place n i at s true fits e some = (ltb-true i n e, is_extent at s fits some)
+chosen_place n i at s false fits e some = ltb-false i n e
 
-is_place : (n i at : ℕ) (s : List ℕ) → IsBytes s → IsPlace n i (place_at n i at s)
-is_place n i at s fits = chosen_place n i at s (nat_lt i n) fits refl
+is_place : (n i at : ℕ) (s : List ℕ) → IsBytes s → place_has_length (place_at n i at s) ≡ true → IsPlace n i (place_at n i at s)
+is_place n i at s fits some = chosen_place n i at s (nat_lt i n) fits refl some
 
-is_map : (b : Bool) (n : ℕ) → n < 2 ^ 32 → IfSome (cond b (Some n) None) (λ m. m < 2 ^ 32)
-is_map true n h = h
-is_map false n h = tt
+is_map : (b : Bool) (n : ℕ) → n < 2 ^ 32 → is_map_number (cond b (Some n) None) ≡ true → IfSome (cond b (Some n) None) (λ m. (0 < m) × (m < 2 ^ 32))
+is_map true n h some = (ltb-true 0 n some, h)
+is_map false n h some = tt
+
+-- what is tested last
+abbrev tests_from_map : Geom → InodeValue → Bool
+tests_from_map g v = is_map_number v.map && (list_all place_has_length v.first && attrs_fit g v.inode)
+
+last_tests : (g : Geom) (v : InodeValue) → inode_fits g v ≡ true → tests_from_map g v ≡ true
+unfolding inode_fits
+last_tests g v h =
+    let links : (nat_le v.inode.nlink 32767 && (nat_le v.extents (extents_limit g) && (v.maps == maps_needed g v.extents && tests_from_map g v))) ≡ true = (and_parts (nat_le v.inode.mode 4095) _ (and_parts (nat_lt v.inode.attrs.flags 32) _ h).1).1 in
+    (and_parts (v.maps == maps_needed g v.extents) (tests_from_map g v) (and_parts (nat_le v.extents (extents_limit g)) _ (and_parts (nat_le v.inode.nlink 32767) _ links).1).1).1
 
 is_chained : (b : Bool) (n : ℕ) → is_some (cond b (Some n) None) ≡ b
 is_chained true n = refl
@@ -182,6 +192,13 @@ is_inode : (g : Geom) (s : List ℕ) → IsBytes s → inode_fits g (inode_at s)
 unfolding inode_at
 is_inode g s fits h =
     let n : ℕ = number_at w32 24 s in
+    let last = and_parts _ _ (last_tests g (inode_at s) h) in
+    let some_1 = and_parts _ _ (and_parts _ _ last.1).0 in
+    let some_2 = and_parts _ _ some_1.1 in
+    let some_3 = and_parts _ _ some_2.1 in
+    let some_4 = and_parts _ _ some_3.1 in
+    let some_5 = and_parts _ _ some_4.1 in
+    let some_6 = and_parts _ _ some_5.1 in
     record {
       fits = h;
       mode = below_16 2 s fits;
@@ -192,8 +209,8 @@ is_inode g s fits h =
       maps = below_16 6 s fits;
       extents = below_32 24 s fits;
       six = refl;
-      places = (is_place n 0 32 s fits, (is_place n 1 48 s fits, (is_place n 2 64 s fits, (is_place n 3 80 s fits, (is_place n 4 96 s fits, (is_place n 5 112 s fits, tt))))));
-      map = is_map (nat_lt 0 (number_at w16 6 s)) (number_at w32 128 s) (below_32 128 s fits);
+      places = (is_place n 0 32 s fits some_1.0, (is_place n 1 48 s fits some_2.0, (is_place n 2 64 s fits some_3.0, (is_place n 3 80 s fits some_4.0, (is_place n 4 96 s fits some_5.0, (is_place n 5 112 s fits some_6.0, tt))))));
+      map = is_map (nat_lt 0 (number_at w16 6 s)) (number_at w32 128 s) (below_32 128 s fits) last.0;
       chained = is_chained (nat_lt 0 (number_at w16 6 s)) (number_at w32 128 s);
     }
 

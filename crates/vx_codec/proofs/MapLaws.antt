@@ -2,14 +2,14 @@
 use Rattle.std.proofs.Common.{◌≡◌, ℕ, zero, suc, ◌+◌, ◌-◌, ◌*◌, ◌<◌, ◌≤◌, ◌^◌, Bool, true, false, cond, Option, Some, None, List, [], ◌∷◌, ◌++◌, length, replicate, refl, sym, ap, subst, ◌∙◌, arith, length-append, append_assoc}
 use Rattle.std.specs.Prelude.{◌==◌, unwrap_or, IfSome}
 use Rattle.std.specs.Int.{w32}
-use Rattle.std.specs.List.{flat_map, AllByRecursion}
+use Rattle.std.specs.List.{flat_map, list_all, AllByRecursion}
 use Rattle.std.specs.Str.{bytes_eq}
-use Rattle.std.proofs.lemmas.Bool.{ne_eqb}
+use Rattle.std.proofs.lemmas.Bool.{and_parts, lt-ltb, ne_eqb}
 use Rattle.std.proofs.lemmas.Slice.Eq.{bytes_eq-Decides}
 use Rattle.std.proofs.lemmas.Nat.{from_le_bytes-to_le_bytes_4}
 use Rattle.vx_base.specs.declared.inode.Extent.{Extent}
 use Rattle.vx_layout.specs.Fields.{number_at}
-use Rattle.vx_layout.specs.Inodes.{extent_bytes, extent_at, IsExtent}
+use Rattle.vx_layout.specs.Inodes.{extent_bytes, extent_at, has_length, IsExtent}
 use Rattle.vx_layout.specs.Maps.{MapBlock, IsMap, map_places, map_head, map_bytes, next_from, extents_at, map_with, map_block_at}
 use Rattle.vx_layout.proofs.Numbers.{IsBytes}
 use Rattle.vx_codec.proofs.InodeLaws.{extent_again, is_extent, below_32}
@@ -93,10 +93,15 @@ unfolding extents_at
 length-read zero at s = refl
 length-read (suc n) at s = ap suc (length-read n (at + 16) s)
 
-are_extents : (n at : ℕ) (s : List ℕ) → IsBytes s → AllByRecursion IsExtent (extents_at n at s)
+are_extents : (n at : ℕ) (s : List ℕ) → IsBytes s → list_all has_length (extents_at n at s) ≡ true → AllByRecursion IsExtent (extents_at n at s)
 unfolding extents_at
-are_extents zero at s fits = tt
-are_extents (suc n) at s fits = (is_extent at s fits, are_extents n (at + 16) s fits)
+are_extents zero at s fits some = tt
+are_extents (suc n) at s fits some = let each = and_parts _ _ some in (is_extent at s fits each.0, are_extents n (at + 16) s fits each.1)
+
+-- extents of the form have a block each
+pub have_lengths : (es : List Extent) → AllByRecursion IsExtent es → list_all has_length es ≡ true
+have_lengths [] each = refl
+have_lengths (e ∷ es) each = rw (lt-ltb 0 e.len each.0.some) (have_lengths es each.1)
 
 next_chosen : (n : ℕ) (b : Bool) → (n == 0) ≡ b → n < 2 ^ 32 → IfSome (cond b None (Some n)) (λ m. (0 < m) × (m < 2 ^ 32))
 next_chosen n true e h = tt
@@ -106,13 +111,13 @@ next_chosen (suc n) false e h = (omega arith, h)
 next_is : (n : ℕ) → n < 2 ^ 32 → IfSome (next_from n) (λ b. (0 < b) × (b < 2 ^ 32))
 next_is n h = next_chosen n (n == 0) refl h
 
-pub is_map : (size n : ℕ) (s : List ℕ) → IsBytes s → 1 ≤ n → n ≤ map_places size → IsMap size (map_with n s)
-is_map size n s fits low high = record {
+pub is_map : (size n : ℕ) (s : List ℕ) → IsBytes s → 1 ≤ n → n ≤ map_places size → list_all has_length (map_with n s).extents ≡ true → IsMap size (map_with n s)
+is_map size n s fits low high some_each = record {
   some = omega (arith, length-read n 16 s);
   most = omega (arith, length-read n 16 s);
   next = next_is (number_at w32 4 s) (below_32 4 s fits);
   ino = below_32 12 s fits;
-  each = are_extents n 16 s fits;
+  each = are_extents n 16 s fits some_each;
 }
 
 -- one extent more
@@ -140,8 +145,8 @@ grown s i v w e is pushed there =
 
 -- ---- the reader
 
-pub is_map_of : (size n : ℕ) (s : List ℕ) (v : MapBlock) → v ≡ map_with n s → IsBytes s → 1 ≤ n → n ≤ map_places size → IsMap size v
-is_map_of size n s v e fits low high = subst (IsMap size) (sym e) (is_map size n s fits low high)
+pub is_map_of : (size n : ℕ) (s : List ℕ) (v : MapBlock) → v ≡ map_with n s → IsBytes s → 1 ≤ n → n ≤ map_places size → list_all has_length v.extents ≡ true → IsMap size v
+is_map_of size n s v e fits low high some_each = subst (IsMap size) (sym e) (is_map size n s fits low high (ap (λ (m : MapBlock). list_all has_length m.extents) (sym e) ∙ some_each))
 
 pub count_of : (size : ℕ) (v : MapBlock) (s : List ℕ) (n : ℕ) → n ≡ number_at w32 8 s → size ≤ 65536 → IsMap size v → s ≡ map_bytes size v → n ≡ length v.extents
 count_of size v s n e high is spelled = e ∙ ap (number_at w32 8) spelled ∙ count_again size v high is

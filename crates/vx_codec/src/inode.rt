@@ -1,8 +1,8 @@
 //! Inodes.
 ghost use Rattle.std.specs.Prelude.{◌≡◌, ℕ, ◌+◌, ◌≤◌, ◌<◌, ◌++◌, ◌&&◌, length, option_copied, Option, Ok, IfOk};
 ghost use Rattle.std.specs.Str.{bytes_eq};
-ghost use Rattle.std.specs.List.{flat_map};
-ghost use Rattle.vx_layout.specs.Inodes.{file_kind_number, place_bytes, inode_head, inode_bytes, slot_bytes, half_of, layout1, IsSlot, IsInode, inode_fits, attrs_fit, extents_limit, file_kind_from, place_at, places_at, attrs_at, fields_at, map_at, inode_at, slot_at};
+ghost use Rattle.std.specs.List.{flat_map, list_all};
+ghost use Rattle.vx_layout.specs.Inodes.{file_kind_number, place_bytes, inode_head, inode_bytes, slot_bytes, half_of, layout1, IsSlot, IsInode, inode_fits, attrs_fit, is_directory_size, extents_limit, places_each, maps_needed, is_map_number, place_has_length, file_kind_from, place_at, places_at, attrs_at, fields_at, map_at, inode_at, slot_at};
 ghost use Rattle.vx_layout.specs.Geoms.{IsGeom};
 ghost use Rattle.vx_base.specs.declared.inode.InodeValue.{InodeValue};
 ghost use Rattle.vx_base.specs.declared.geom.Geom.{Geom};
@@ -50,7 +50,7 @@ pub fn read_inode(sector: &[u8; 512], half: u32) -> Result<Option<InodeValue>, B
 
 /// The inode in one half of a sector, None where it is free, in a layout of these sizes.
 ///
-/// That its extents are in order and that its blocks are there is not looked at.
+/// That its extents are in order, and that they and a directory's size fit its blocks, is not looked at.
 pub fn read_inode_with(
     sector: &[u8; 512],
     half: u32,
@@ -111,9 +111,56 @@ fn fits(value: &InodeValue, geom: &Geom) -> bool
     value.inode.attrs.flags < 32
         && value.inode.mode <= 4095
         && value.inode.nlink <= 32767
-        && value.maps as u32 <= geom.maps
         && value.extents <= extents_limit(geom)
+        && value.maps as u32 == maps_needed(value.extents, geom)
+        && is_map_number(value.map)
+        && have_lengths(&value.first)
         && attrs_fit(&value.inode, geom)
+}
+
+/// Places for extents in a map block.
+fn places_each(geom: &Geom) -> u32
+    requires { IsGeom geom.now }
+    ensures is { result ≡ places_each geom.now }
+    ensures some { 63 ≤ result }
+    ensures most { result ≤ 511 }
+{
+    geom.block / 16 - 1
+}
+
+/// Map blocks that so many extents need.
+fn maps_needed(extents: u32, geom: &Geom) -> u32
+    requires { IsGeom geom.now }
+    ensures { result ≡ maps_needed geom.now extents }
+{
+    if extents <= 6 {
+        return 0;
+    }
+    (extents - 6).div_ceil(places_each(geom))
+}
+
+fn is_map_number(map: Option<Block>) -> bool
+    ensures { result ≡ is_map_number map }
+{
+    match map {
+        Some(block) => 0 < block.get(),
+        None => true,
+    }
+}
+
+fn have_lengths(places: &[Option<Extent>; 6]) -> bool
+    ensures { result ≡ list_all place_has_length places.now }
+{
+    places.iter().all(|place| has_length(*place))
+}
+
+fn has_length(place: Option<Extent>) -> bool
+    ensures { result ≡ place_has_length place }
+{
+    match place {
+        Some(extent) => 0 < extent.len,
+        None => true,
+    }
 }
 
 /// Six extents in the inode, and as many in each map block as it has places for.
@@ -121,10 +168,11 @@ fn extents_limit(geom: &Geom) -> u32
     requires { IsGeom geom.now }
     ensures { result ≡ extents_limit geom.now }
 {
-    6 + geom.maps * (geom.block / 16 - 1)
+    6 + geom.maps * places_each(geom)
 }
 
 fn attrs_fit(inode: &Inode, geom: &Geom) -> bool
+    requires { IsGeom geom.now }
     ensures { result ≡ attrs_fit geom.now inode.now }
 {
     let attrs = &inode.attrs;
@@ -137,9 +185,21 @@ fn attrs_fit(inode: &Inode, geom: &Geom) -> bool
                 && (attrs.flags & 8 == 0 || attrs.reserve == 0)
         }
         FileKind::Directory => {
-            attrs.flags == 0 && inode.nlink == 1 && attrs.fixed == 0 && attrs.reserve == 0
+            is_directory_size(inode.size, geom)
+                && attrs.flags == 0
+                && inode.nlink == 1
+                && attrs.fixed == 0
+                && attrs.reserve == 0
         }
     }
+}
+
+/// Whether so many bytes are whole blocks, as many as a directory may have at most.
+fn is_directory_size(size: u64, geom: &Geom) -> bool
+    requires { IsGeom geom.now }
+    ensures { result ≡ is_directory_size geom.now size }
+{
+    size % geom.block as u64 == 0 && size <= geom.dirs as u64 * geom.block as u64
 }
 
 fn inode_of(bytes: &[u8]) -> InodeValue

@@ -1,6 +1,8 @@
 //! Map blocks.
-ghost use Rattle.std.specs.Prelude.{◌≡◌, ◌⊎◌, ◌≢◌, ℕ, ◌+◌, ◌*◌, ◌≤◌, ◌<◌, ◌^◌, ◌++◌, ◌∷◌, [], length, Some, Ok, Err, IfOk, OnOk, OnErr};
+ghost use Rattle.std.specs.Prelude.{◌≡◌, ◌⊎◌, ◌≢◌, ℕ, true, ◌+◌, ◌*◌, ◌≤◌, ◌<◌, ◌^◌, ◌++◌, ◌∷◌, [], length, Some, Ok, Err, IfOk, OnOk, OnErr};
+ghost use Rattle.std.specs.List.{list_all};
 ghost use Rattle.std.specs.Str.{bytes_eq};
+ghost use Rattle.vx_layout.specs.Inodes.{has_length};
 ghost use Rattle.vx_layout.specs.Maps.{MapBlock, IsMap, map_places, map_head, map_bytes, next_from, map_with, map_block_at};
 ghost use Rattle.vx_codec.specs.declared.map.MapRefusal.{MapRefusal};
 ghost use Rattle.vx_codec.specs.declared.map.MapRefusal.TheVariants.{Bad, NoMemory};
@@ -127,6 +129,9 @@ pub fn read_map<const N: usize>(alloc: Global, block: &[u8; N]) -> Result<MapVal
         return Err(MapRefusal::Bad);
     }
     let value = map_of(alloc, block, count)?;
+    if !have_lengths(value.extents()) {
+        return Err(MapRefusal::Bad);
+    }
     if is_spelling::<N>(&value, block) {
         Ok(value)
     } else {
@@ -148,12 +153,19 @@ fn is_spelling<const N: usize>(value: &MapValue, block: &[u8; N]) -> bool
     write_map::<N>(value).as_slice() == block.as_slice()
 }
 
+/// Whether each extent has a block at least.
+fn have_lengths(extents: &[Extent]) -> bool
+    ensures { result ≡ list_all has_length extents.now }
+{
+    extents.iter().all(|extent| 0 < extent.len)
+}
+
 /// The fields at their places, with so many extents.
 fn map_of(alloc: Global, bytes: &[u8], count: usize) -> Result<MapValue, AllocError>
     requires some { 1 ≤ count }
     requires room { 16 + 16 * count ≤ length bytes.now }
     ensures read { IfOk result (λ v. v ≡ map_with count bytes.now) }
-    ensures is { IfOk result (λ v. IsMap (length bytes.now) v) }
+    ensures is { IfOk result (λ v. list_all has_length v.extents ≡ true → IsMap (length bytes.now) v) }
 {
     let mut value = MapValue::new(
         alloc,

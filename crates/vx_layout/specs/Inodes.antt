@@ -1,7 +1,7 @@
 -- How an inode is spelled, in 256 bytes.
-use Rattle.std.specs.Prelude.{◌≡◌, ℕ, ◌+◌, ◌-◌, ◌*◌, ◌/◌, ◌<◌, ◌≤◌, ◌^◌, Bool, true, false, ◌==◌, ◌&&◌, ◌||◌, nat_le, nat_lt, if◌then◌else◌, bit_and, IsTrue, List, [], ◌∷◌, ◌++◌, length, replicate, take, drop, slice_index, Option, Some, None, unwrap_or, is_some, IfSome}
+use Rattle.std.specs.Prelude.{◌≡◌, ℕ, ◌+◌, ◌-◌, ◌*◌, ◌/◌, ◌%◌, ◌<◌, ◌≤◌, ◌^◌, Bool, true, false, ◌==◌, ◌&&◌, ◌||◌, nat_le, nat_lt, if◌then◌else◌, bit_and, IsTrue, List, [], ◌∷◌, ◌++◌, length, replicate, take, drop, slice_index, Option, Some, None, unwrap_or, is_some, IfSome}
 use Rattle.std.specs.Str.{bytes_eq}
-use Rattle.std.specs.Int.{w16, w32, w64, to_le_bytes}
+use Rattle.std.specs.Int.{w16, w32, w64, to_le_bytes, div_ceil}
 use Rattle.std.specs.List.{flat_map, list_all}
 use Rattle.vx_base.specs.declared.kind.FileKind.{FileKind}
 use Rattle.vx_base.specs.declared.kind.FileKind.TheVariants.{File, Directory}
@@ -52,31 +52,59 @@ half_of s half = take 256 (drop (256 * half) s)
 abbrev pub layout1 : Geom
 layout1 = record { block = 1024; per_unit = 4063; maps = 64; dirs = 64; limit = 2 ^ 26 }
 
--- ---- which values an inode has; that its extents are in order and that its blocks are there is for the image check
+-- ---- which values an inode's own bytes say; that its extents are in order, and that they and a directory's size fit its blocks,
+-- is a rule of the whole list of them
 
 abbrev pub is_directory : FileKind → Bool
 is_directory File = false
 is_directory Directory = true
 
+-- a directory's size is that of whole blocks, as many as it may have at most
+abbrev pub is_directory_size : Geom → ℕ → Bool
+is_directory_size g size = size % g.block == 0 && nat_le size (g.dirs * g.block)
+
 -- what a file or a directory allows; a file has no more pages reserved than it may have
 abbrev pub attrs_fit : Geom → Inode → Bool
 attrs_fit g i =
-    if is_directory i.kind then i.attrs.flags == 0 && (i.nlink == 1 && (i.attrs.fixed == 0 && i.attrs.reserve == 0))
+    if is_directory i.kind then is_directory_size g i.size && (i.attrs.flags == 0 && (i.nlink == 1 && (i.attrs.fixed == 0 && i.attrs.reserve == 0)))
     else nat_le i.size g.limit && (nat_le i.attrs.fixed g.per_unit && (nat_le i.attrs.reserve 65536
     && (nat_le (i.attrs.reserve * g.block) g.limit && (bit_and i.attrs.flags 8 == 0 || i.attrs.reserve == 0))))
 
+-- the places for extents in a map block
+abbrev pub places_each : Geom → ℕ
+places_each g = g.block / 16 - 1
+
 -- six extents in the inode, and as many in each map block as it has room for
 abbrev pub extents_limit : Geom → ℕ
-extents_limit g = 6 + g.maps * (g.block / 16 - 1)
+extents_limit g = 6 + g.maps * places_each g
+
+-- the map blocks that so many extents need: all but the last are full
+abbrev pub maps_needed : Geom → ℕ → ℕ
+maps_needed g extents = if nat_le extents 6 then 0 else div_ceil (extents - 6) (places_each g)
+
+-- an extent has a block at least
+abbrev pub has_length : Extent → Bool
+has_length e = nat_lt 0 e.len
+
+abbrev pub place_has_length : Option Extent → Bool
+place_has_length None = true
+place_has_length (Some e) = has_length e
+
+-- 0 is the number of no map block
+abbrev pub is_map_number : Option ℕ → Bool
+is_map_number None = true
+is_map_number (Some b) = nat_lt 0 b
 
 unfoldable pub inode_fits : Geom → InodeValue → Bool
 inode_fits g v =
     nat_lt v.inode.attrs.flags 32 && (nat_le v.inode.mode 4095 && (nat_le v.inode.nlink 32767
-    && (nat_le v.maps g.maps && (nat_le v.extents (extents_limit g) && attrs_fit g v.inode))))
+    && (nat_le v.extents (extents_limit g) && (v.maps == maps_needed g v.extents && (is_map_number v.map
+    && (list_all place_has_length v.first && attrs_fit g v.inode))))))
 
 pub record IsExtent (e : Extent) : Type 0 where
   pub page : e.page < 2 ^ 32
   pub start : e.start < 2 ^ 32
+  pub some : 1 ≤ e.len
   pub len : e.len < 2 ^ 32
 
 -- of n extents the i-th has a place of its own, and the place is empty where there is no such extent
@@ -99,7 +127,7 @@ pub record IsInode (g : Geom) (v : InodeValue) : Type 0 where
   pub extents : v.extents < 2 ^ 32
   pub six : length v.first ≡ 6
   pub places : ArePlaces v.extents 0 v.first
-  pub map : IfSome v.map (λ b. b < 2 ^ 32)
+  pub map : IfSome v.map (λ b. (0 < b) × (b < 2 ^ 32))
   pub chained : is_some v.map ≡ nat_lt 0 v.maps
 
 abbrev pub IsSlot : Geom → Option InodeValue → Type 0

@@ -77,7 +77,7 @@ filled_fits d b h low = record {
   maps = lit< tt;
   extents = lit< tt;
   six = refl;
-  places = ((lit< tt, record { page = lit< tt; start = low; len = lit< tt }), (lit≤ tt, (lit≤ tt, (lit≤ tt, (lit≤ tt, (lit≤ tt, tt))))));
+  places = ((lit< tt, record { page = lit< tt; start = low; some = lit≤ tt; len = lit< tt }), (lit≤ tt, (lit≤ tt, (lit≤ tt, (lit≤ tt, (lit≤ tt, tt))))));
   map = tt;
   chained = refl;
 }
