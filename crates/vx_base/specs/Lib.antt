@@ -1,4 +1,5 @@
 pub mod Fits
 pub mod Faults
+pub mod Lines
 pub mod Paths
 pub mod Streams

@@ -13,7 +13,7 @@ pub enum Flag {
     Unbuffered,
 }
 
-#[derive(Clone, Debug, Drop, PartialEq)]
+#[derive(Debug, Drop, PartialEq)]
 pub enum Payload {
     Given(Bytes),
     Fill { byte: u8, len: u32 },
@@ -33,7 +33,7 @@ pub struct ExtAttrs {
     pub flags: u8,
 }
 
-#[derive(Clone, Debug, Drop, PartialEq)]
+#[derive(Debug, Drop, PartialEq)]
 pub enum Call {
     Create {
         path: Bytes,

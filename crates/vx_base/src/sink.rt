@@ -1,8 +1,9 @@
 //! Where output goes.
-ghost use Rattle.std.specs.Prelude.{◌≡◌, ◌<◌, ◌≤◌, ◌+◌, ◌-◌, ℕ, List, [], length, take, min, IfOk, Some};
+ghost use Rattle.std.specs.Prelude.{◌≡◌, ◌<◌, ◌≤◌, ◌+◌, ◌-◌, ℕ, List, [], length, take, min, IfOk, OnErr, Some, is_err};
 ghost use Rattle.std.specs.declared.option.Option.{Option};
 ghost use Rattle.std.specs.Io.KnownBytes.{WriteAppends};
 ghost use Rattle.vx_base.specs.Faults.{HasCause};
+ghost use Rattle.vx_base.specs.Streams.{fails_next_write, after_failed_write, after_write};
 
 use crate::bytes::Bytes;
 use crate::num_list::NumList;
@@ -50,7 +51,7 @@ impl Model for MemSink {
 
     ghost Value = { SinkView };
 
-    ghost view = { λ s. record { taken = s.bytes.items; room = s.room; faults = s.faults } };
+    ghost view = { λ s. record { taken = s.bytes.items; room = s.room; writes = s.writes; fail = s.fail; faults = s.faults } };
 
     ghost invariant = { λ s. (vec_len s.bytes ≤ s.room) × (s.room ≤ vec_capacity s.bytes) };
 }
@@ -58,7 +59,7 @@ impl Model for MemSink {
 impl MemSink {
     /// An empty sink with room for so many bytes. The writes whose numbers, from 1, are in `fail` answer a fault.
     pub fn new(alloc: Global, room: u32, fail: NumList) -> Result<Self, AllocError>
-        ensures { IfOk result (λ sink. sink ≡ record { taken = []; room = room; faults = 0 }) }
+        ensures { IfOk result (λ sink. sink ≡ record { taken = []; room = room; writes = 0; fail = fail; faults = 0 }) }
     {
         let room = room as usize;
         let bytes = Vec::with_capacity(alloc, room)?;
@@ -89,13 +90,22 @@ impl Sink for MemSink {
     }
 
     /// It takes as much of a piece as its room holds.
-    fn write(&mut self, from: &[u8]) -> Result<usize, SinkFault> {
+    fn write(&mut self, from: &[u8]) -> Result<usize, SinkFault>
+        requires { 0 < length from.now }
+        ensures some { IfOk result (λ n. (0 < n) × (n ≤ length from.now)) }
+        ensures bytes { WriteAppends (Some self.old.taken) (Some self.new.taken) result from.now }
+        ensures cause { HasCause self.old.faults self.new.faults result }
+        ensures fails { is_err result ≡ fails_next_write self.old }
+        ensures failed { OnErr result (self.new ≡ after_failed_write self.old) }
+        ensures count { IfOk result (λ n. n ≡ min (length from.now) (self.old.room - length self.old.taken)) }
+        ensures written { IfOk result (λ n. self.new ≡ after_write (take n from.now) self.old) }
+    {
         self.writes = self.writes.saturating_add(1);
-        let count = from.len().min(self.room - self.bytes.len());
-        if count == 0 || self.fail.contains(self.writes) {
+        if self.bytes.len() >= self.room || self.fail.contains(self.writes) {
             self.faults = self.faults.saturating_add(1);
             return Err(SinkFault);
         }
+        let count = from.len().min(self.room - self.bytes.len());
         match self.bytes.extend_from_slice(&from[..count]) {
             Ok(()) => Ok(count),
             Err(_) => unreachable!(),

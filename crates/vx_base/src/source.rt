@@ -1,9 +1,10 @@
 //! Where a script's bytes come from.
-ghost use Rattle.std.specs.Prelude.{◌≡◌, ◌<◌, ℕ, List, length, take, min, Some};
+ghost use Rattle.std.specs.Prelude.{◌≡◌, ◌<◌, ℕ, List, length, take, min, Some, IfOk, OnErr, is_err};
 ghost use Rattle.std.specs.declared.option.Option.{Option};
 ghost use Rattle.std.specs.Io.{ReadsAtMost};
 ghost use Rattle.std.specs.Io.KnownBytes.{ReadConsumes};
 ghost use Rattle.vx_base.specs.Faults.{HasCause};
+ghost use Rattle.vx_base.specs.Streams.{fails_next_read, after_failed_read, after_read};
 
 use crate::bytes::Bytes;
 use crate::num_list::NumList;
@@ -50,7 +51,7 @@ impl Model for MemSource {
 
     ghost Value = { SourceView };
 
-    ghost view = { λ s. record { left = drop s.taken s.bytes; faults = s.faults } };
+    ghost view = { λ s. record { left = drop s.taken s.bytes; reads = s.reads; fail = s.fail; faults = s.faults } };
 
     ghost invariant = { λ s. s.taken ≤ length s.bytes };
 }
@@ -58,7 +59,7 @@ impl Model for MemSource {
 impl MemSource {
     /// A source of these bytes. The reads whose numbers, from 1, are in `fail` answer a fault.
     pub fn new(bytes: Bytes, fail: NumList) -> Self
-        ensures { result ≡ record { left = bytes; faults = 0 } }
+        ensures { result ≡ record { left = bytes; reads = 0; fail = fail; faults = 0 } }
     {
         MemSource {
             bytes,
@@ -79,7 +80,17 @@ impl Source for MemSource {
         self.faults
     }
 
-    fn read(&mut self, to: &mut [u8]) -> Result<usize, SourceFault> {
+    /// It takes as many bytes as are left and as there is room for.
+    fn read(&mut self, to: &mut [u8]) -> Result<usize, SourceFault>
+        requires { 0 < length to.old }
+        ensures bound { ReadsAtMost result to.new }
+        ensures bytes { ReadConsumes (Some self.old.left) (Some self.new.left) result to.new }
+        ensures cause { HasCause self.old.faults self.new.faults result }
+        ensures fails { is_err result ≡ fails_next_read self.old }
+        ensures failed { OnErr result (self.new ≡ after_failed_read self.old) }
+        ensures count { IfOk result (λ n. n ≡ min (length self.old.left) (length to.old)) }
+        ensures read { IfOk result (λ n. self.new ≡ after_read n self.old) }
+    {
         self.reads = self.reads.saturating_add(1);
         if self.fail.contains(self.reads) {
             self.faults = self.faults.saturating_add(1);

@@ -1,7 +1,7 @@
 -- What an operation does to what a crash may leave. All above the devices rests on this alone.
-use Rattle.std.specs.Prelude.{◌≡◌, ◌≢◌, ◌⊎◌, ℕ, List}
+use Rattle.std.specs.Prelude.{◌≡◌, ◌≢◌, ◌⊎◌, ◌<◌, ℕ, List}
 use Rattle.vx_dev.specs.declared.device.Operation.TheVariants.{Put, Barrier}
-use Rattle.vx_dev.specs.Tape.{Tape, did, MayHold, now, Settles, Writes, tried}
+use Rattle.vx_dev.specs.Tape.{Tape, did, upto, MayHold, now, Settles, Writes, tried, HasSectors, IsSector}
 
 pub record TapeLaws : Type 0 where
   -- what is put is what a barrier leaves, and other sectors stay
@@ -18,3 +18,6 @@ pub record TapeLaws : Type 0 where
   pub barrier_leaves_one : (t : Tape) (s : ℕ) (x : List ℕ) → MayHold (did Barrier t) s x → x ≡ now (did Barrier t) s
   pub barrier_keeps : (t : Tape) (s : ℕ) → now (did Barrier t) s ≡ now t s
   pub now_may : (t : Tape) (s : ℕ) → MayHold t s (now t s)
+  -- whatever a sector of the device may hold has the bytes of a sector, at earlier moments too
+  pub may_hold_sector : (t : Tape) (n s : ℕ) (x : List ℕ) → HasSectors n t → s < n → MayHold t s x → IsSector x
+  pub earlier_sectors : (t : Tape) (n m : ℕ) → HasSectors n t → HasSectors n (upto m t)

@@ -1,5 +1,6 @@
 //! Contents of a disk, sector by sector.
-ghost use Rattle.std.specs.Prelude.{◌≡◌, ◌<◌, ℕ, [], IfOk, length, replicate, slice_get, slice_set};
+ghost use Rattle.std.specs.Prelude.{◌≡◌, ◌<◌, ℕ, [], All, IfOk, length, replicate, slice_get, slice_set};
+ghost use Rattle.vx_dev.specs.Tape.{IsSector};
 
 use std::alloc::{AllocError, Global};
 use std::marker::Model;
@@ -11,11 +12,14 @@ pub struct Image {
 }
 
 impl Model for Image {
-    ghost use Rattle.std.specs.Prelude.{List, ℕ};
+    ghost use Rattle.std.specs.Prelude.{List, ℕ, All};
+    ghost use Rattle.vx_dev.specs.Tape.{IsSector};
 
     ghost Value = { List (List ℕ) };
 
     ghost view = { λ a. a.sectors.items };
+
+    ghost invariant = { λ a. All IsSector a.sectors.items };
 }
 
 impl Image {
@@ -30,15 +34,10 @@ impl Image {
         Ok(Image { sectors: zeros })
     }
 
-    pub fn from_vec(sectors: Vec<[u8; 512]>) -> Self
-        ensures { result ≡ sectors.items }
-    {
-        Image { sectors }
-    }
-
     /// The number of sectors.
     pub fn len(&self) -> u64
-        ensures { result ≡ length self.now }
+        ensures length { result ≡ length self.now }
+        ensures sectors { All IsSector self.now }
     {
         self.sectors.len() as u64
     }

@@ -53,6 +53,8 @@ impl<F: FileExt + OpenFile + Drop> BlockDev for FileDev<F> {
 
     ghost in_step = { λ f. tt };
 
+    ghost of_sectors = { λ f. tt };
+
     fn sectors(&self) -> u64 {
         self.sectors
     }

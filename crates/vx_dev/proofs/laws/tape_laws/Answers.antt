@@ -1,5 +1,5 @@
 use Rattle.std.proofs.Common.{sym, ◌∙◌}
-use Rattle.vx_dev.proofs.Tapes.{may_now, now-barrier, may_put, may_barrier, may_less, settles_put, settles_put_other, settles_barrier, put_writes, tried_writes}
+use Rattle.vx_dev.proofs.Tapes.{may_now, now-barrier, may_put, may_barrier, may_less, settles_put, settles_put_other, settles_barrier, put_writes, tried_writes, may_hold_sector, earlier_sectors}
 use Rattle.vx_dev.proofs.laws.tape_laws.Goals as goal
 
 pub returns : goal.returns
@@ -15,4 +15,6 @@ returns c = record {
   barrier_leaves_one = λ t s x may. may_barrier t s x may ∙ sym (now-barrier t s);
   barrier_keeps = now-barrier;
   now_may = may_now;
+  may_hold_sector = may_hold_sector;
+  earlier_sectors = earlier_sectors;
 }
