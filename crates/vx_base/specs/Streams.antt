@@ -1,5 +1,5 @@
 -- What is known of sources and sinks in memory.
-use Rattle.std.specs.Prelude.{ℕ, ◌+◌, ◌-◌, ◌^◌, Bool, ◌||◌, nat_eq, nat_le, List, ◌++◌, length, take, drop, min}
+use Rattle.std.specs.Prelude.{ℕ, ◌+◌, ◌-◌, ◌^◌, Bool, ◌||◌, nat_eq, nat_le, List, ◌++◌, length, drop, min}
 use Rattle.std.specs.List.{list_any}
 
 -- one more, where a counter stays at the last value of a u64

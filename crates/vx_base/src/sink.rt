@@ -8,7 +8,7 @@ ghost use Rattle.vx_base.specs.Streams.{fails_next_write, after_failed_write, af
 use crate::bytes::Bytes;
 use crate::num_list::NumList;
 use std::alloc::{AllocError, Global};
-use std::io::Write;
+use std::io::{ErrorKind, Write};
 use std::marker::Model;
 
 /// The sink took nothing.
@@ -147,12 +147,28 @@ impl<W: Write + Drop> Sink for StdSink<W> {
     }
 
     fn write(&mut self, from: &[u8]) -> Result<usize, SinkFault> {
-        match self.writer.write(from) {
-            Ok(count) if count > 0 => Ok(count),
-            _ => {
+        match write_uninterrupted(&mut self.writer, from) {
+            Ok(count) => Ok(count),
+            Err(fault) => {
                 self.faults = self.faults.saturating_add(1);
-                Err(SinkFault)
+                Err(fault)
             }
         }
     }
+}
+
+/// Writes one byte at least, and tries again where a signal interrupts the call.
+fn write_uninterrupted<W: Write>(writer: &mut W, from: &[u8]) -> Result<usize, SinkFault>
+    ensures some { IfOk result (λ n. (0 < n) × (n ≤ length from.now)) }
+    ensures bytes { WriteAppends (W.contents writer.old) (W.contents writer.new) result from.now }
+{
+    for _try in 0..u64::MAX {
+        match writer.write(from) {
+            Ok(0) => return Err(SinkFault),
+            Ok(count) => return Ok(count),
+            Err(error) if error.kind() == ErrorKind::Interrupted => {}
+            Err(_) => return Err(SinkFault),
+        }
+    }
+    Err(SinkFault)
 }

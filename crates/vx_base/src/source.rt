@@ -8,7 +8,7 @@ ghost use Rattle.vx_base.specs.Streams.{fails_next_read, after_failed_read, afte
 
 use crate::bytes::Bytes;
 use crate::num_list::NumList;
-use std::io::Read;
+use std::io::{ErrorKind, Read};
 use std::marker::Model;
 
 /// The source could not be read.
@@ -135,12 +135,27 @@ impl<R: Read + Drop> Source for StdSource<R> {
     }
 
     fn read(&mut self, to: &mut [u8]) -> Result<usize, SourceFault> {
-        match self.reader.read(to) {
+        match read_uninterrupted(&mut self.reader, to) {
             Ok(count) => Ok(count),
-            Err(_) => {
+            Err(fault) => {
                 self.faults = self.faults.saturating_add(1);
-                Err(SourceFault)
+                Err(fault)
             }
         }
     }
+}
+
+/// Reads, and tries again where a signal interrupts the call.
+fn read_uninterrupted<R: Read>(reader: &mut R, to: &mut [u8]) -> Result<usize, SourceFault>
+    ensures bound { ReadsAtMost result to.new }
+    ensures bytes { ReadConsumes (R.remaining reader.old) (R.remaining reader.new) result to.new }
+{
+    for _try in 0..u64::MAX {
+        match reader.read(to) {
+            Ok(count) => return Ok(count),
+            Err(error) if error.kind() == ErrorKind::Interrupted => {}
+            Err(_) => return Err(SourceFault),
+        }
+    }
+    Err(SourceFault)
 }
