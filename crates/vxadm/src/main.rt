@@ -1,50 +1,72 @@
 //! `vxadm`: checks an image file and replays its log, or makes a file system in it, and prints how that ended.
 #![tactic(auto)]
 
-use std::fs::{File, OpenOptions};
+use std::fs::File;
 use std::process::ExitCode;
-use std::{env, io};
 use vx_admin::{AdminDone, admin};
 use vx_base::StdSink;
 use vx_filedev::FileDev;
+use vx_host::{
+    CommandLine, ImageError, asks_for_usage, cause_of, command_line, complain,
+    hold_standard_streams, open_image,
+};
 
-const SECTOR: u64 = 512;
+const NO_MEMORY: u8 = 6;
 
 const CANNOT_OPEN: u8 = 9;
 
-fn main(rt: HostRuntime) -> io::Result<ExitCode> {
-    let words = words(&rt)?;
-    match image(&rt, &words) {
-        Ok(dev) => {
-            let mut out = StdSink::new(rt.stdout());
-            let AdminDone { status, dev: _ } = admin(rt.alloc(), &words, dev, &mut out);
-            Ok(ExitCode::from(status))
-        }
-        Err(_) => {
-            println!(rt; "cannot open")?;
-            Ok(ExitCode::from(CANNOT_OPEN))
+const USAGE: &str = "usage: vxadm fsck IMAGE
+       vxadm mkfs IMAGE [--units N] [--log N]
+Replays the log of a stopped image and leaves it clean, or makes a new file system in it. vxadm(1) has more.
+vxadm 0.1 of Vudkesh";
+
+fn main(rt: HostRuntime) -> ExitCode {
+    ExitCode::from(status(&rt))
+}
+
+fn status(rt: &HostRuntime) -> u8 {
+    // kept to the end: no file that is opened may stand in the place of a closed standard stream
+    let _streams = match hold_standard_streams(rt) {
+        Ok(streams) => streams,
+        Err(_) => return cannot_open(rt),
+    };
+    let Ok(line) = command_line(rt) else {
+        return NO_MEMORY;
+    };
+    if asks_for_usage(line.words.as_slice()) {
+        let _ = rt.eprintln(USAGE);
+    }
+    if !line.has_image {
+        return cannot_open(rt);
+    }
+    match image(rt, &line) {
+        Ok(dev) => administered(rt, &line, dev),
+        Err(why) => {
+            complain(rt, "vxadm", line.words.as_slice(), &why);
+            cannot_open(rt)
         }
     }
 }
 
-/// The words of the command line, without the program's name.
-fn words(rt: &HostRuntime) -> io::Result<Vec<String>> {
-    let mut words = Vec::new(rt.alloc());
-    for word in env::args(rt)?.skip(1) {
-        words.push(word)?;
+/// Does what the words ask for, and answers the status.
+fn administered(rt: &HostRuntime, line: &CommandLine, dev: FileDev<File>) -> u8 {
+    let mut out = StdSink::new(rt.stdout());
+    let AdminDone { status, dev: _ } = admin(rt.alloc(), line.words.as_slice(), dev, &mut out);
+    if let Some(why) = cause_of(status) {
+        complain(rt, "vxadm", line.words.as_slice(), &why);
     }
-    Ok(words)
+    status
 }
 
 /// The image that the second word names. It is never made or lengthened.
-fn image(rt: &HostRuntime, words: &[String]) -> io::Result<FileDev<File>> {
-    let [_, path, ..] = words else {
-        return Err(io::ErrorKind::InvalidInput.into());
-    };
-    let file = OpenOptions::new()
-        .read(true)
-        .write(true)
-        .open(rt, path.as_str())?;
-    let len = file.metadata()?.len();
-    Ok(FileDev::new(file, len / SECTOR))
+fn image(rt: &HostRuntime, line: &CommandLine) -> Result<FileDev<File>, ImageError> {
+    match line.words.as_slice() {
+        [_, path, ..] => open_image(rt, path.as_str()),
+        _ => open_image(rt, ""),
+    }
+}
+
+fn cannot_open(rt: &HostRuntime) -> u8 {
+    let _ = rt.println("cannot open");
+    CANNOT_OPEN
 }

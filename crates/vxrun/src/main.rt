@@ -1,72 +1,90 @@
 //! `vxrun`: makes a new file system on an image file, runs a script on it, and prints the answers.
 #![tactic(auto)]
 
-use std::fs::{File, OpenOptions};
+use std::fs::File;
 use std::process::ExitCode;
-use std::{env, io};
 use vx_base::{StdSink, StdSource};
 use vx_filedev::FileDev;
+use vx_host::{
+    CommandLine, ImageError, asks_for_usage, cause_of, command_line, complain,
+    hold_standard_streams, open_image, open_or_make_image,
+};
 use vx_run::{OpenGate, Ran, run};
 
 /// The sectors of an image of one unit.
 const FRESH_SECTORS: u64 = 9_220;
 
-const SECTOR: u64 = 512;
+const NO_MEMORY: u8 = 6;
 
 const CANNOT_OPEN: u8 = 9;
 
-fn main(rt: HostRuntime) -> io::Result<ExitCode> {
-    let words = words(&rt)?;
-    match image(&rt, &words) {
-        Ok(dev) => {
-            let mut script = StdSource::new(rt.stdin());
-            let mut out = StdSink::new(rt.stdout());
-            let Ran {
-                status,
-                dev: _,
-                history: _,
-            } = run(
-                &rt,
-                rt.alloc(),
-                &words,
-                dev,
-                &mut script,
-                &mut out,
-                &OpenGate,
-            );
-            Ok(ExitCode::from(status))
-        }
-        Err(_) => {
-            println!(rt; "cannot open")?;
-            Ok(ExitCode::from(CANNOT_OPEN))
+const USAGE: &str = "usage: vxrun fresh IMAGE -o log < SCRIPT
+Makes a file system in the file IMAGE, answers the lines of SCRIPT, and unmounts it. vxrun(1) has more.
+vxrun 0.1 of Vudkesh";
+
+fn main(rt: HostRuntime) -> ExitCode {
+    ExitCode::from(status(&rt))
+}
+
+fn status(rt: &HostRuntime) -> u8 {
+    // kept to the end: no file that is opened may stand in the place of a closed standard stream
+    let _streams = match hold_standard_streams(rt) {
+        Ok(streams) => streams,
+        Err(_) => return cannot_open(rt),
+    };
+    let Ok(line) = command_line(rt) else {
+        return NO_MEMORY;
+    };
+    if asks_for_usage(line.words.as_slice()) {
+        let _ = rt.eprintln(USAGE);
+    }
+    if !line.has_image {
+        return cannot_open(rt);
+    }
+    match image(rt, &line) {
+        Ok(dev) => answered(rt, &line, dev),
+        Err(why) => {
+            complain(rt, "vxrun", line.words.as_slice(), &why);
+            cannot_open(rt)
         }
     }
 }
 
-/// The words of the command line, without the program's name.
-fn words(rt: &HostRuntime) -> io::Result<Vec<String>> {
-    let mut words = Vec::new(rt.alloc());
-    for word in env::args(rt)?.skip(1) {
-        words.push(word)?;
+/// Runs the script, and answers the status.
+fn answered(rt: &HostRuntime, line: &CommandLine, dev: FileDev<File>) -> u8 {
+    let mut script = StdSource::new(rt.stdin());
+    let mut out = StdSink::new(rt.stdout());
+    let Ran {
+        status,
+        dev: _,
+        history: _,
+    } = run(
+        rt,
+        rt.alloc(),
+        line.words.as_slice(),
+        dev,
+        &mut script,
+        &mut out,
+        &OpenGate,
+    );
+    if let Some(why) = cause_of(status) {
+        complain(rt, "vxrun", line.words.as_slice(), &why);
     }
-    Ok(words)
+    status
 }
 
 /// The image that the second word names. For `fresh` it is made, or lengthened with zeros.
-fn image(rt: &HostRuntime, words: &[String]) -> io::Result<FileDev<File>> {
-    let [verb, path, ..] = words else {
-        return Err(io::ErrorKind::InvalidInput.into());
-    };
-    let fresh = verb.as_str() == "fresh";
-    let file = OpenOptions::new()
-        .read(true)
-        .write(true)
-        .create(fresh)
-        .open(rt, path.as_str())?;
-    let mut len = file.metadata()?.len();
-    if fresh && len < FRESH_SECTORS * SECTOR {
-        len = FRESH_SECTORS * SECTOR;
-        file.set_len(len)?;
+fn image(rt: &HostRuntime, line: &CommandLine) -> Result<FileDev<File>, ImageError> {
+    match line.words.as_slice() {
+        [verb, path, ..] if verb.as_str() == "fresh" => {
+            open_or_make_image(rt, path.as_str(), FRESH_SECTORS)
+        }
+        [_, path, ..] => open_image(rt, path.as_str()),
+        _ => open_image(rt, ""),
     }
-    Ok(FileDev::new(file, len / SECTOR))
+}
+
+fn cannot_open(rt: &HostRuntime) -> u8 {
+    let _ = rt.println("cannot open");
+    CANNOT_OPEN
 }

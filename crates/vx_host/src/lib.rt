@@ -1,0 +1,12 @@
+//! What both programs do at the edge to the operating system: their words, their standard streams, and the file of an image.
+#![tactic(auto)]
+
+mod image;
+mod message;
+mod streams;
+mod words;
+
+pub use image::{ImageError, open_image, open_or_make_image};
+pub use message::{asks_for_usage, cause_of, complain};
+pub use streams::{StandardStreams, hold_standard_streams};
+pub use words::{CommandLine, command_line};
