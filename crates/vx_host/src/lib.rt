@@ -10,3 +10,6 @@ pub use image::{ImageError, open_image, open_or_make_image};
 pub use message::{asks_for_usage, cause_of, complain};
 pub use streams::{StandardStreams, hold_standard_streams};
 pub use words::{CommandLine, command_line};
+
+#[cfg(test)]
+mod tests;
