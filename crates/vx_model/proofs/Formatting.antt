@@ -93,9 +93,9 @@ or_none true c h = refl
 or_none false c h = h
 
 -- a sector of a new unit that is neither the bitmap nor the root's
-zeros_there : (w : Super) (u i : ℕ) → i ≢ 0 → (u == 0 && i == 3) ≡ false → unit_bytes (volume_of w) u i ≡ zero_sector
+zeros_there : (u i : ℕ) → i ≢ 0 → (u == 0 && i == 3) ≡ false → unit_bytes 2 u i ≡ zero_sector
 unfolding zero_sector
-zeros_there w u i ne other = let first : (i == 0) ≡ false = ne_eqb i 0 ne in rw (first, other) refl
+zeros_there u i ne other = let first : (i == 0) ≡ false = ne_eqb i 0 ne in rw (first, other) refl
 
 other_pair : (u i : ℕ) → (u ≡ 0 → i ≡ 3 → ⊥) → (u == 0 && i == 3) ≡ false
 other_pair u i ne = elim (cases_eq u 0) [
@@ -142,7 +142,7 @@ module _ (w : Super) (limit sectors : ℕ) (is_super : IsSuper w) (image : ℕ �
   free_holds s k lt ne at =
       let whole = div-add-mod' k 64 in
       let start : s ≡ bitmap_sector v (k / 64) + (2 + k % 64) = omega (arith, at) in
-      let none = zeros_there w (k / 64) (2 + k % 64) (λ e. omega arith) (other_pair (k / 64) (2 + k % 64) (λ a b. ne (omega (arith, a, b, whole)))) in
+      let none = zeros_there (k / 64) (2 + k % 64) (λ e. omega arith) (other_pair (k / 64) (2 + k % 64) (λ a b. ne (omega (arith, a, b, whole)))) in
       ap image start ∙ is (k / 64) (2 + k % 64) (omega arith) (omega arith) ∙ none ∙ sym two_halves
       ∙ (λ i. slot_bytes (sym (free (2 * k) (λ e. omega arith)) i) ++ slot_bytes (sym (free (2 * k + 1) (λ e. omega arith)) i))
 
@@ -154,7 +154,7 @@ module _ (w : Super) (limit sectors : ℕ) (is_super : IsSuper w) (image : ℕ �
       let within = there.within in
       let whole = div-add-mod' (s - first * 2) 8192 in
       let only : s ≡ bitmap_sector v ((s - first * 2) / 8192) + 1 = omega arith in
-      ap image only ∙ is ((s - first * 2) / 8192) 1 unit (lit< tt) ∙ zeros_there w ((s - first * 2) / 8192) 1 (λ e. absurd cc) (other_pair ((s - first * 2) / 8192) 1 (λ a b. absurd cc))
+      ap image only ∙ is ((s - first * 2) / 8192) 1 unit (lit< tt) ∙ zeros_there ((s - first * 2) / 8192) 1 (λ e. absurd cc) (other_pair ((s - first * 2) / 8192) 1 (λ a b. absurd cc))
 
   holds : (s : ℕ) (q : Place) → (q ≡ blank → IsSpare v s) → IsPlaceOf v s q → Holds s q
   holds s outside there at = tt

@@ -63,18 +63,19 @@ abbrev pub fresh_root : InodeValue
 fresh_root = inode_for [] (new_directory 493)
 
 -- the bitmap of a new unit: its own block and those of the inodes are in use
-abbrev pub new_bitmap : Volume → List ℕ
-new_bitmap v = bits_bytes (λ j. nat_lt j (first_data (per_block v)))
+abbrev pub new_bitmap : (per_block : ℕ) → List ℕ
+new_bitmap per_block = bits_bytes (λ j. nat_lt j (first_data per_block))
+
+-- Sector i of new unit u. The unit's bitmap stands first. The only inode in use is the root, which is inode 2, the first of the
+-- second pair of unit 0.
+abbrev pub unit_bytes : (per_block u i : ℕ) → List ℕ
+unit_bytes per_block u i =
+    if i == 0 then new_bitmap per_block else (if u == 0 && i == per_block + 1 then slot_bytes (Some fresh_root) ++ slot_bytes None else replicate 512 0)
 
 -- the sectors of a unit that formatting writes: those of its bitmap's block, and one for each pair of inodes
 abbrev pub unit_sectors : Volume → ℕ
 unit_sectors v = per_block v + 64
 
--- Sector i of new unit u. The unit's bitmap stands first. The only inode in use is the root, which is inode 2, the first of the
--- second pair of unit 0.
-abbrev pub unit_bytes : Volume → ℕ → ℕ → List ℕ
-unit_bytes v u i = if i == 0 then new_bitmap v else (if u == 0 && i == per_block v + 1 then slot_bytes (Some fresh_root) ++ slot_bytes None else replicate 512 0)
-
 -- the bitmap and the inodes of each unit are those of a new file system
 abbrev pub IsFormatted : Volume → (ℕ → List ℕ) → Type 0
-IsFormatted v image = (u i : ℕ) → u < v.units → i < unit_sectors v → image (bitmap_sector v u + i) ≡ unit_bytes v u i
+IsFormatted v image = (u i : ℕ) → u < v.units → i < unit_sectors v → image (bitmap_sector v u + i) ≡ unit_bytes (per_block v) u i
