@@ -24,25 +24,27 @@ use Rattle.vx_model.specs.State.{State}
 use Rattle.vx_kernel.specs.Devices.{IsInside}
 use Rattle.vx_kernel.specs.Journals.{IsIdle, IsAtRest, IsChange, IsReadingOf, IsUnnamed, IsNoted, IsKept}
 use Rattle.vx_kernel.specs.declared.journal.Journal.{Journal}
-use Rattle.vx_kernel.specs.JournalLaws.{unit_volume, JournalLaws}
+use Rattle.vx_kernel.specs.JournalLaws.{JournalLaws}
+use Rattle.vx_kernel.specs.Sizes.{unit_volume, new_log_sectors, sectors_needed}
 use Rattle.vx_kernel.proofs.EmptyLaws.{still_passed}
-use Rattle.vx_kernel.proofs.ReplayLaws.{or_left, or_right, or_cases, and_left, mounted_volume, says_of, low_not_noted, super_unnamed, kept_replays, blank, blank_reading, reading_at, nothing_told, told_cases, told_at, untold, passed_untold, serial_low}
+use Rattle.vx_kernel.proofs.ReplayLaws.{or_left, or_right, or_cases, and_left, mounted_volume, says_of, low_not_noted, room_of, super_unnamed, kept_replays, blank, blank_reading, reading_at, nothing_told, told_cases, told_at, untold, passed_untold, serial_low}
 
 overlay_all-append : (rs qs : List (List AfterImage)) (s : ℕ) (x : List ℕ) → overlay_all (rs ++ qs) s x ≡ overlay_all qs s (overlay_all rs s x)
 overlay_all-append [] qs s x = refl
 overlay_all-append (r ∷ rs) qs s x = overlay_all-append rs qs s (overlay r s x)
 
-both_forms : (rs qs : List (List AfterImage)) → AllByRecursion (IsRecord 1024 9220) rs → AllByRecursion (IsRecord 1024 9220) qs → AllByRecursion (IsRecord 1024 9220) (rs ++ qs)
-both_forms [] qs h k = k
-both_forms (r ∷ rs) qs h k = (h.0, both_forms rs qs h.1 k)
+both_forms : (size : ℕ) (rs qs : List (List AfterImage)) → AllByRecursion (IsRecord new_log_sectors size) rs → AllByRecursion (IsRecord new_log_sectors size) qs
+    → AllByRecursion (IsRecord new_log_sectors size) (rs ++ qs)
+both_forms size [] qs h k = k
+both_forms size (r ∷ rs) qs h k = (h.0, both_forms size rs qs h.1 k)
 
-nameable : (batch : List AfterImage) → AllByRecursion IsInside batch → AllByRecursion (IsNameable 1024 9220) (sectors_of batch)
-nameable [] h = tt
-nameable (e ∷ batch) h = (
+nameable : (size : ℕ) (batch : List AfterImage) → sectors_needed ≤ size → AllByRecursion IsInside batch → AllByRecursion (IsNameable new_log_sectors size) (sectors_of batch)
+nameable size [] room h = tt
+nameable size (e ∷ batch) room h = (
   let low : 1028 ≤ e.0 = h.0.0 in
       let high : e.0 < 9220 = h.0.1 in
-      record { home = inr (omega (arith, low)); inside = high; low = omega (arith, high) },
-  nameable batch h.1,
+      record { home = inr (omega (arith, low)); inside = omega (arith, high, room); low = omega (arith, high) },
+  nameable size batch room h.1,
 )
 
 -- what a batch has right is metadata
@@ -180,7 +182,9 @@ module _ (laws : JournalLaws) (old new : State) (batch : List AfterImage) (chang
           superblock_is = contents_is 0 ∙ laws.notes.overlay_lacks batch 0 (r.contents 0) super_lacked ∙ k.superblock_is;
           serial = serial_low r.serial;
           limit = omega (arith, limit, laws.length r.head batch);
-          form = both_forms r.records (records_of batch) k.form (laws.form 1024 9220 batch rising (nameable batch inside));
+          form = both_forms new.layout.device_sectors r.records (records_of batch)
+              (subst (λ (size : ℕ). AllByRecursion (IsRecord new_log_sectors size) r.records) (sym change.same_device) k.form)
+              (laws.form new_log_sectors new.layout.device_sectors batch rising (nameable new.layout.device_sectors batch (room_of new change.new_mounted) inside));
         }
 
     still_noted : (q : ℕ) (o : Option (List ℕ)) → noted_at batch q ≡ None → IsNoted r q o → IsNoted next q o
@@ -215,7 +219,7 @@ module _ (laws : JournalLaws) (old new : State) (batch : List AfterImage) (chang
       (passed : (r : LogState) (is_metadata : ℕ → Bool) → Commits log r batch is_metadata → Told a (Stands log.sectors r)
       → Passed (λ image. ReadsAs log.sectors r image ⊎ ReadsAs log.sectors (grown r (records_of batch) is_metadata) image) a b) where
     abbrev One : (ℕ → List ℕ) → Type 0
-    One image = ReplaysAs image old.tree ⊎ ReplaysAs image new.tree
+    One image = ReplaysAs old.layout.device_sectors image old.tree ⊎ ReplaysAs new.layout.device_sectors image new.tree
 
     abbrev Before : Tape → Type 0
     Before t = IsKept log homes old t
@@ -295,7 +299,7 @@ module _ (laws : JournalLaws) (s new : State) (batch : List AfterImage) (none : 
       superblock_is = k.is_reading.superblock_is;
       serial = k.is_reading.serial;
       limit = k.is_reading.limit;
-      form = k.is_reading.form;
+      form = subst (λ (size : ℕ). AllByRecursion (IsRecord new_log_sectors size) k.reading.records) (sym change.same_device) k.is_reading.form;
     };
     stands = k.stands;
     noted = k.noted;
@@ -303,7 +307,7 @@ module _ (laws : JournalLaws) (s new : State) (batch : List AfterImage) (none : 
   }
 
   pub nothing_passed : (log : LogView) → log.sectors ≡ 1024 → (homes : List AfterImage) → AllByRecursion IsInside homes → (a : Device) → Told a (IsKept log homes s)
-      → Passed (λ image. ReplaysAs image s.tree ⊎ ReplaysAs image new.tree) a a
+      → Passed (λ image. ReplaysAs s.layout.device_sectors image s.tree ⊎ ReplaysAs new.layout.device_sectors image new.tree) a a
   nothing_passed log sectors homes inside a h =
-      passed_weaker (λ image. ReplaysAs image s.tree) (λ image. ReplaysAs image s.tree ⊎ ReplaysAs image new.tree) a a (λ image replays. inl replays)
+      passed_weaker (λ image. ReplaysAs s.layout.device_sectors image s.tree) (λ image. ReplaysAs s.layout.device_sectors image s.tree ⊎ ReplaysAs new.layout.device_sectors image new.tree) a a (λ image replays. inl replays)
       (still_passed laws s change.mounted log sectors homes inside a h)

@@ -30,7 +30,7 @@ place_of (e ∷ homes) q (suc k, lt, is) = let rest = place_of homes q (k, omega
 
 module _ (laws : JournalLaws) (s : State) (m : IsMounted s) (log : LogView) (sectors : log.sectors ≡ 1024) (homes : List AfterImage) (inside : AllByRecursion IsInside homes) where
   abbrev Now : (ℕ → List ℕ) → Type 0
-  Now image = ReplaysAs image s.tree
+  Now image = ReplaysAs s.layout.device_sectors image s.tree
 
   abbrev Rests : Tape → Type 0
   Rests t = IsKept log homes s t

@@ -25,8 +25,9 @@ use Rattle.vx_model.specs.Replays.{ReplaysAs}
 use Rattle.vx_model.specs.State.{State}
 use Rattle.vx_log.proofs.Passing.{told_weaker}
 use Rattle.vx_kernel.specs.Devices.{IsInside}
-use Rattle.vx_kernel.specs.Journals.{IsMounted, superblock_of, IsReadingOf, IsUnnamed, IsNoted, IsKept}
-use Rattle.vx_kernel.specs.JournalLaws.{unit_volume, JournalLaws}
+use Rattle.vx_kernel.specs.Journals.{IsMounted, IsReadingOf, IsUnnamed, IsNoted, IsKept}
+use Rattle.vx_kernel.specs.JournalLaws.{JournalLaws}
+use Rattle.vx_kernel.specs.Sizes.{superblock_of, unit_volume, sectors_needed}
 
 -- ---- results
 
@@ -138,6 +139,9 @@ mounted_volume s m = λ i. record { block = 1024; first = 2 + m.log_blocks i; un
 pub says_of : (s : State) (r : LogState) → IsMounted s → IsReadingOf s r → Says unit_volume (parsed_of s) r
 says_of s r m k = subst (λ v. Says v (parsed_of s) r) (mounted_volume s m) k.says
 
+pub room_of : (s : State) → IsMounted s → sectors_needed ≤ s.layout.device_sectors
+room_of s m = omega (arith, m.laid_out.room, m.log_blocks, m.units)
+
 module _ (laws : JournalLaws) where
   -- ---- sectors of which nothing is noted
 
@@ -154,8 +158,8 @@ module _ (laws : JournalLaws) where
 
   -- ---- images
 
-  pub replays : (s : State) (clean : Bool) (r : LogState) (image : ℕ → List ℕ) → r.serial < 2 ^ 64 → r.head ≤ 2 ^ 62 → AllByRecursion (IsRecord 1024 9220) r.records → IsMounted s → Says unit_volume (parsed_of s) r → image 0 ≡ super_bytes (superblock_of clean) → overlay_all r.records 0 (image 0) ≡ image 0
-      → ReadsAs 1024 r image → ReplaysAs image s.tree
+  pub replays : (s : State) (clean : Bool) (r : LogState) (image : ℕ → List ℕ) → r.serial < 2 ^ 64 → r.head ≤ 2 ^ 62 → AllByRecursion (IsRecord 1024 s.layout.device_sectors) r.records → IsMounted s → Says unit_volume (parsed_of s) r → image 0 ≡ super_bytes (superblock_of clean) → overlay_all r.records 0 (image 0) ≡ image 0
+      → ReadsAs 1024 r image → ReplaysAs s.layout.device_sectors image s.tree
   replays s clean r image serial limit form m says super unnamed reads =
       let over : ℕ → List ℕ = λ q. overlay_all r.records q (image q) in
       let stands = laws.says_stands (parsed_of s) r image says reads in
@@ -169,11 +173,13 @@ module _ (laws : JournalLaws) where
         is_super = is_super;
         superblock_is = unnamed ∙ super;
         same_log = refl;
+        first_room = room_of s m;
+        room = room_of s m;
         log = record { serial = r.serial; tail = r.tail; head = r.head; serial_limit = serial; limit = limit; form = form; head_is = reads.head_is; ends = reads.ends; fits = reads.fits; whole = reads.whole };
         reads = subst (λ v. ImageReadsAs v over s.tree) (mounted_volume s m) (laws.reads s over m.laid_out (subst (λ v. images.Stands v (parsed_of s) over) (sym (mounted_volume s m)) stands));
       }
 
-  pub kept_replays : (s : State) (r : LogState) → IsMounted s → IsReadingOf s r → IsUnnamed r.records 0 → (image : ℕ → List ℕ) → ReadsAs 1024 r image → ReplaysAs image s.tree
+  pub kept_replays : (s : State) (r : LogState) → IsMounted s → IsReadingOf s r → IsUnnamed r.records 0 → (image : ℕ → List ℕ) → ReadsAs 1024 r image → ReplaysAs s.layout.device_sectors image s.tree
   kept_replays s r m k unnamed image reads =
       replays s false r image k.serial k.limit k.form m (says_of s r m k) (sym (unnamed (image 0)) ∙ reads.metadata 0 k.superblock ∙ k.superblock_is) (unnamed (image 0)) reads
 

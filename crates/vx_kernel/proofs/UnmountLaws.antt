@@ -19,9 +19,10 @@ use Rattle.vx_model.specs.Reads.{ImageReadsAs}
 use Rattle.vx_model.specs.Replays.{IsLeft, ReplaysAs}
 use Rattle.vx_model.specs.State.{State}
 use Rattle.vx_kernel.specs.Devices.{IsInside}
-use Rattle.vx_kernel.specs.Journals.{IsMounted, superblock_of, IsKept}
-use Rattle.vx_kernel.specs.JournalLaws.{unit_volume, JournalLaws}
-use Rattle.vx_kernel.proofs.ReplayLaws.{and_false, and_left, and_both, level_records, mounted_volume, says_of, super_unnamed, replays}
+use Rattle.vx_kernel.specs.Journals.{IsMounted, IsKept}
+use Rattle.vx_kernel.specs.JournalLaws.{JournalLaws}
+use Rattle.vx_kernel.specs.Sizes.{superblock_of, unit_volume, new_log_sectors}
+use Rattle.vx_kernel.proofs.ReplayLaws.{and_false, and_left, and_both, level_records, mounted_volume, room_of, says_of, super_unnamed, replays}
 
 -- the log is empty, and the superblock is that of a mounted file system or of a clean one
 pub record IsClosing (s : State) (t : Tape) : Type 0 where
@@ -32,7 +33,7 @@ pub record IsClosing (s : State) (t : Tape) : Type 0 where
   pub not_super : reading.is_metadata 0 ≡ false
   pub serial : reading.serial < 2 ^ 64
   pub limit : reading.head ≤ 2 ^ 62
-  pub form : AllByRecursion (IsRecord 1024 9220) reading.records
+  pub form : AllByRecursion (IsRecord new_log_sectors s.layout.device_sectors) reading.records
   pub stands : Stands 1024 reading t
   pub superblock : (x : List ℕ) → MayHold t 0 x → (x ≡ super_bytes (superblock_of false)) ⊎ (x ≡ super_bytes (superblock_of true))
 
@@ -86,7 +87,7 @@ module _ (laws : JournalLaws) (s : State) (m : IsMounted s) where
     superblock = λ x may. k.superblock x (laws.tape.barrier_adds t 0 x may);
   }
 
-  closing_shows : (t : Tape) → IsClosing s t → (image : ℕ → List ℕ) → IsImage t image → ReplaysAs image s.tree
+  closing_shows : (t : Tape) → IsClosing s t → (image : ℕ → List ℕ) → IsImage t image → ReplaysAs s.layout.device_sectors image s.tree
   closing_shows t k image is =
       let reads = laws.image_reads k.reading t image k.stands is in
       let unnamed : overlay_all k.reading.records 0 (image 0) ≡ image 0 = ap (λ (rs : List (List AfterImage)). overlay_all rs 0 (image 0)) k.records in
@@ -99,7 +100,7 @@ module _ (laws : JournalLaws) (s : State) (m : IsMounted s) where
   abbrev IsSettling : Tape → Type 0
   IsSettling t = IsClosing s t × Settles t 0 (super_bytes (superblock_of true))
 
-  left_at : (t : Tape) → IsSettling t → IsLeft s.tree (did Barrier t)
+  left_at : (t : Tape) → IsSettling t → IsLeft s.layout.device_sectors s.tree (did Barrier t)
   left_at t h =
       let k = closing_barrier t h.0 in
       let image : ℕ → List ℕ = now (did Barrier t) in
@@ -114,15 +115,18 @@ module _ (laws : JournalLaws) (s : State) (m : IsMounted s) where
           is_super = record { log_low = lit≤ tt; log_high = lit≤ tt; units_low = lit≤ tt; units_high = lit≤ tt };
           superblock_is = h.1 (image 0) (is 0);
           clean = refl;
+          room = room_of s m;
           serial = k.reading.serial;
           tail = k.reading.head;
+          serial_limit = k.serial;
+          limit = k.limit;
           head_is = reads.head_is ∙ ap (λ (p : ℕ). head_sector k.reading.serial p k.reading.head) k.tail;
           reads = subst (λ v. ImageReadsAs v image s.tree) (mounted_volume s m) (laws.reads s image m.laid_out (subst (λ v. images.Stands v (parsed_of s) image) (sym (mounted_volume s m)) plain));
         };
       }
 
   abbrev pub Same : (ℕ → List ℕ) → Type 0
-  Same image = ReplaysAs image s.tree
+  Same image = ReplaysAs s.layout.device_sectors image s.tree
 
   closing_told : (d : Device) → Told d (IsClosing s) → Told d (λ t. (image : ℕ → List ℕ) → IsImage t image → Same image)
   closing_told d h = told_weaker d (IsClosing s) (λ t. (image : ℕ → List ℕ) → IsImage t image → Same image) closing_shows h
@@ -153,8 +157,8 @@ module _ (laws : JournalLaws) (s : State) (m : IsMounted s) where
       | inr nothing ↦ passed_still Same a b nothing.told (closing_told a closing_first)
     ]
 
-    pub left : (b d : Device) → Did (Put 0 (super_bytes (superblock_of true))) a b → Did Barrier b d → Told d (IsLeft s.tree)
-    left b d put passed = did_told Barrier b d IsSettling (IsLeft s.tree) passed left_at (put_told b put)
+    pub left : (b d : Device) → Did (Put 0 (super_bytes (superblock_of true))) a b → Did Barrier b d → Told d (IsLeft s.layout.device_sectors s.tree)
+    left b d put passed = did_told Barrier b d IsSettling (IsLeft s.layout.device_sectors s.tree) passed left_at (put_told b put)
 
     pub barrier_passed : (b d : Device) → Did (Put 0 (super_bytes (superblock_of true))) a b → Did Barrier b d → Passed Same b d
     barrier_passed b d put passed = passed_did Same Barrier b d passed (closing_told b (told_weaker b IsSettling (IsClosing s) (λ t h. h.0) (put_told b put)))

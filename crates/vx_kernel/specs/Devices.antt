@@ -1,6 +1,7 @@
 -- What every step of a mount does to its device.
 use Rattle.std.specs.Prelude.{◌≡◌, ◌≤◌, ◌<◌, ℕ, List}
 use Rattle.vx_dev.specs.Tape.{State}
+use Rattle.vx_kernel.specs.Sizes.{units_start, sectors_needed}
 
 -- operations may have been added; nothing else but the count of failed writes has changed
 pub record Onward (old new : State) : Type 0 where
@@ -11,4 +12,4 @@ pub record Onward (old new : State) : Type 0 where
 
 -- a sector of the units of a new file system
 abbrev pub IsInside : ℕ × List ℕ → Type 0
-IsInside e = (1028 ≤ e.0) × (e.0 < 9220)
+IsInside e = (units_start ≤ e.0) × (e.0 < sectors_needed)

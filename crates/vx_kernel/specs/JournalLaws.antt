@@ -9,7 +9,6 @@ use Rattle.vx_dev.specs.Tape.{Tape, State as Device, Writes, did, IsImage}
 use Rattle.vx_layout.specs.LogForms.{AfterImage, IsNameable, IsRecord, LogState, ReadsAs, log_length, body_of, records_of, overlay, overlay_all}
 use Rattle.vx_layout.specs.Dirs.{dir_bytes}
 use Rattle.vx_layout.specs.Places.{Volume, is_data, block_sector, sector_part}
-use Rattle.vx_layout.specs.Supers.{volume_of}
 use Rattle.vx_log.specs.Batches.{sectors_of}
 use Rattle.vx_log.specs.Crashes.{Stands, IsDecided, IsFree}
 use Rattle.vx_log.specs.Moments.{Told, Passed}
@@ -24,16 +23,12 @@ use Rattle.vx_model.specs.Legal.{with_released}
 use Rattle.vx_model.specs.Reads.{ImageReadsAs}
 use Rattle.vx_model.specs.State.{State}
 use Rattle.vx_home.specs.NoteLaws.{NoteLaws}
-use Rattle.vx_kernel.specs.Journals.{superblock_of}
-
--- the volume of each new file system
-abbrev pub unit_volume : Volume
-unit_volume = volume_of (superblock_of false)
+use Rattle.vx_kernel.specs.Sizes.{unit_volume, new_log_sectors, units_start}
 
 pub record JournalLaws : Type 0 where
   -- ---- images
-  pub past_log : (p : Parsed) (s : ℕ) → IsTrue (is_metadata unit_volume p s) → 1028 ≤ s
-  pub says_stands : (p : Parsed) (r : LogState) (image : ℕ → List ℕ) → Says unit_volume p r → ReadsAs 1024 r image → images.Stands unit_volume p (λ s. overlay_all r.records s (image s))
+  pub past_log : (p : Parsed) (s : ℕ) → IsTrue (is_metadata unit_volume p s) → units_start ≤ s
+  pub says_stands : (p : Parsed) (r : LogState) (image : ℕ → List ℕ) → Says unit_volume p r → ReadsAs new_log_sectors r image → images.Stands unit_volume p (λ s. overlay_all r.records s (image s))
   pub says_next : (old new : Parsed) (batch : List AfterImage) (r next : LogState) → Says unit_volume old r → IsBatch unit_volume old new batch
       → ((s : ℕ) → IsTrue (is_metadata unit_volume new s) → IsTrue (next.is_metadata s)) → ((s : ℕ) → next.contents s ≡ overlay batch s (r.contents s)) → Says unit_volume new next
   pub covered : (old new : Parsed) (batch : List AfterImage) → IsBatch unit_volume old new batch
@@ -49,14 +44,14 @@ pub record JournalLaws : Type 0 where
   pub length : (position : ℕ) (batch : List AfterImage) → length (body_of position batch) ≡ log_length (length batch)
   pub form : (n size : ℕ) (batch : List AfterImage) → IsStrictlyIncreasing (sectors_of batch) → AllByRecursion (IsNameable n size) (sectors_of batch) → AllByRecursion (IsRecord n size) (records_of batch)
   -- ---- the log
-  pub image_reads : (r : LogState) (t : Tape) (image : ℕ → List ℕ) → Stands 1024 r t → IsImage t image → ReadsAs 1024 r image
-  pub written : (r : LogState) (t : Tape) (op : Operation) (u : ℕ) (bytes : List ℕ) → Writes op u bytes → IsFree 1024 r u → u ≢ 2 → Stands 1024 r t → Stands 1024 r (did op t)
-  pub barrier : (r : LogState) (t : Tape) → Stands 1024 r t → Stands 1024 r (did Barrier t)
-  pub fewer : (r : LogState) (is_metadata : ℕ → Bool) (t : Tape) → ((s : ℕ) → IsTrue (is_metadata s) → IsTrue (r.is_metadata s)) → Stands 1024 r t → Stands 1024 (record r { is_metadata = is_metadata }) t
+  pub image_reads : (r : LogState) (t : Tape) (image : ℕ → List ℕ) → Stands new_log_sectors r t → IsImage t image → ReadsAs new_log_sectors r image
+  pub written : (r : LogState) (t : Tape) (op : Operation) (u : ℕ) (bytes : List ℕ) → Writes op u bytes → IsFree new_log_sectors r u → u ≢ 2 → Stands new_log_sectors r t → Stands new_log_sectors r (did op t)
+  pub barrier : (r : LogState) (t : Tape) → Stands new_log_sectors r t → Stands new_log_sectors r (did Barrier t)
+  pub fewer : (r : LogState) (is_metadata : ℕ → Bool) (t : Tape) → ((s : ℕ) → IsTrue (is_metadata s) → IsTrue (r.is_metadata s)) → Stands new_log_sectors r t → Stands new_log_sectors (record r { is_metadata = is_metadata }) t
   pub homes : (r : LogState) (writes : List (ℕ × List ℕ)) (old new : Device) → AreHomes r writes → Ran (puts writes) old new
-      → Told old (Stands 1024 r) → Told new (AreWritten 1024 r writes) × Passed (ReadsAs 1024 r) old new
+      → Told old (Stands new_log_sectors r) → Told new (AreWritten new_log_sectors r writes) × Passed (ReadsAs new_log_sectors r) old new
   pub homes_broken : (r : LogState) (writes : List (ℕ × List ℕ)) (old new : Device) → AreHomes r writes → BrokeOff writes old new
-      → Told old (Stands 1024 r) → Passed (ReadsAs 1024 r) old new
+      → Told old (Stands new_log_sectors r) → Passed (ReadsAs new_log_sectors r) old new
   -- ---- the tape
   pub tape : TapeLaws
   -- ---- what is noted

@@ -1,11 +1,10 @@
 -- A journal between two transactions, and what it knows of its device.
 use Rattle.std.specs.List.{AllByRecursion}
-use Rattle.std.specs.Prelude.{◌^◌, ◌≡◌, ◌+◌, ◌<◌, ◌≤◌, ℕ, Bool, true, false, IsTrue, List, [], length, All, Option, Some, None}
+use Rattle.std.specs.Prelude.{◌^◌, ◌≡◌, ◌+◌, ◌<◌, ◌≤◌, ℕ, true, false, IsTrue, List, [], length, All, Option, Some, None}
 use Rattle.vx_dev.specs.Tape.{Tape}
 use Rattle.vx_layout.specs.LogForms.{AfterImage, IsRecord, LogState, overlay_all}
 use Rattle.vx_layout.specs.Places.{block_sector}
 use Rattle.vx_layout.specs.Supers.{super_bytes}
-use Rattle.vx_layout.specs.declared.superblock.Super.{Super}
 use Rattle.vx_log.specs.Crashes.{Stands, IsDecided}
 use Rattle.vx_log.specs.Logs.{LogView}
 use Rattle.vx_home.specs.Homes.{noted_at}
@@ -15,12 +14,13 @@ use Rattle.vx_model.specs.Layout.{volume, is_free}
 use Rattle.vx_model.specs.LaidOut.{IsLaidOut}
 use Rattle.vx_model.specs.State.{State}
 use Rattle.vx_kernel.specs.Devices.{IsInside}
+use Rattle.vx_kernel.specs.Sizes.{new_log_blocks, new_log_sectors, superblock_of}
 use Rattle.vx_kernel.specs.declared.journal.Journal.{Journal}
 
 -- no batch is being written, and the log has more sectors than are noted
 pub record IsIdle (journal : Journal) : Type 0 where
   pub closing : journal.log.closing ≡ None
-  pub sectors : journal.log.sectors ≡ 1024
+  pub sectors : journal.log.sectors ≡ new_log_sectors
   pub few : journal.log.tail + length journal.homes ≤ journal.log.head
   pub inside : All IsInside journal.homes
 
@@ -31,23 +31,16 @@ pub record IsAtRest (journal : Journal) : Type 0 where
 
 -- ---- the states that a mount comes to
 
--- the log's blocks of every new file system
-abbrev pub new_log_blocks : ℕ
-new_log_blocks = 512
-
 pub record IsMounted (s : State) : Type 0 where
   pub laid_out : IsLaidOut s
   pub log_blocks : s.layout.log_blocks ≡ new_log_blocks
   pub units : s.layout.units ≡ 1
 
--- the superblock of a mounted file system, or of one that was left clean
-abbrev pub superblock_of : Bool → Super
-superblock_of clean = record { log_blocks = new_log_blocks; units = 1; clean = clean }
-
 -- a transaction leads from the one state to the other, and frees no block
 pub record IsChange (s new : State) (batch : List AfterImage) : Type 0 where
   pub mounted : IsMounted s
   pub new_mounted : IsMounted new
+  pub same_device : new.layout.device_sectors ≡ s.layout.device_sectors
   pub is_batch : IsBatch (volume new.layout) (parsed_of s) (parsed_of new) batch
   pub frees_none : (b : ℕ) → is_free new.layout b ≡ true → is_free s.layout b ≡ true
 
@@ -60,7 +53,7 @@ pub record IsReadingOf (s : State) (r : LogState) : Type 0 where
   pub superblock_is : r.contents 0 ≡ super_bytes (superblock_of false)
   pub serial : r.serial < 2 ^ 64
   pub limit : r.head ≤ 2 ^ 62
-  pub form : AllByRecursion (IsRecord 1024 9220) r.records
+  pub form : AllByRecursion (IsRecord new_log_sectors s.layout.device_sectors) r.records
 
 -- no record names the sector
 abbrev pub IsUnnamed : List (List AfterImage) → ℕ → Type 0
@@ -79,6 +72,6 @@ pub record IsKept (log : LogView) (homes : List AfterImage) (s : State) (t : Tap
   pub tail : reading.tail ≡ log.tail
   pub head : reading.head ≡ log.head
   pub is_reading : IsReadingOf s reading
-  pub stands : Stands 1024 reading t
+  pub stands : Stands new_log_sectors reading t
   pub noted : (q : ℕ) → IsNoted reading q (noted_at homes q)
   pub apart : (b i : ℕ) → is_free s.layout b ≡ true → i < 2 → IsUnnamed reading.records (block_sector 2 b + i)

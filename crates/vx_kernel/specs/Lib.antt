@@ -1,4 +1,4 @@
+pub mod Sizes
 pub mod Devices
 pub mod Journals
 pub mod JournalLaws
-pub mod Formats

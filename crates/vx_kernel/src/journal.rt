@@ -8,6 +8,7 @@ ghost use Rattle.vx_model.specs.Legal.{with_released};
 ghost use Rattle.vx_model.specs.Replays.{ReplaysAs};
 ghost use Rattle.vx_model.specs.State.{State};
 ghost use Rattle.vx_kernel.specs.Devices.{Onward, IsInside};
+ghost use Rattle.vx_kernel.specs.Sizes.{new_log_sectors, sectors_needed};
 
 use crate::device::{pass, put};
 use crate::formatting::{LOG_BLOCKS, superblock};
@@ -33,7 +34,7 @@ impl Journal {
     /// The journal of a new file system. It takes all the memory that it ever needs.
     pub fn new(alloc: Global) -> Result<Self, AllocError>
         ensures rest { IfOk result IsAtRest }
-        ensures log { IfOk result (λ journal. journal.log ≡ fresh_log 1024) }
+        ensures log { IfOk result (λ journal. journal.log ≡ fresh_log new_log_sectors) }
         ensures homes { IfOk result (λ journal. journal.homes ≡ []) }
     {
         let log = Log::fresh(alloc, LOG_BLOCKS)?;
@@ -59,16 +60,16 @@ impl Journal {
     /// Makes a transaction durable: its sectors go into the log, and the head sector then names them. Nothing is done where it has none.
     pub fn commit<D: BlockDev>(&mut self, dev: &mut D, batch: Batch) -> Result<(), DevFault>
         requires idle { IsIdle self.old }
-        requires size { 9220 ≤ (D.state dev.old).size }
+        requires size { sectors_needed ≤ (D.state dev.old).size }
         requires inside { All IsInside batch }
-        requires room { self.old.log.head + log_length (length batch) ≤ self.old.log.tail + 1024 }
+        requires room { self.old.log.head + log_length (length batch) ≤ self.old.log.tail + new_log_sectors }
         requires limit { self.old.log.head + log_length (length batch) ≤ 2 ^ 62 }
         ensures rest { OnOk result (IsAtRest self.new) }
         ensures head { self.new.log.head ≤ self.old.log.head + log_length (length batch) }
         ensures kept { (s new : State) → IsChange s new batch → Told (D.state dev.old) (IsKept self.old.log self.old.homes s)
             → OnOk result (Told (D.state dev.new) (IsKept self.new.log self.new.homes new)) }
         ensures passed { (s new : State) → IsChange s new batch → Told (D.state dev.old) (IsKept self.old.log self.old.homes s)
-            → Passed (λ image. ReplaysAs image s.tree ⊎ ReplaysAs image new.tree) (D.state dev.old) (D.state dev.new) }
+            → Passed (λ image. ReplaysAs s.layout.device_sectors image s.tree ⊎ ReplaysAs new.layout.device_sectors image new.tree) (D.state dev.old) (D.state dev.new) }
         ensures onward { Onward (D.state dev.old) (D.state dev.new) }
         ensures cause { HasCause (D.state dev.old).write_faults (D.state dev.new).write_faults result }
     {
@@ -88,19 +89,19 @@ impl Journal {
     /// Empties the log where it has no room for so many sectors, and answers whether it did.
     pub fn make_room<D: BlockDev>(&mut self, dev: &mut D, sectors: u32) -> Result<bool, DevFault>
         requires idle { IsIdle self.old }
-        requires few { sectors ≤ 1024 }
-        requires size { 9220 ≤ (D.state dev.old).size }
+        requires few { sectors ≤ new_log_sectors }
+        requires size { sectors_needed ≤ (D.state dev.old).size }
         ensures idle { OnOk result (IsIdle self.new) }
         ensures ready { self.new.ready ≡ self.old.ready }
-        ensures emptied { IfOk result (λ emptied. emptied ≡ nat_lt (1024 - (self.old.log.head - self.old.log.tail)) sectors) }
-        ensures room { OnOk result (self.new.log.head + sectors ≤ self.new.log.tail + 1024) }
+        ensures emptied { IfOk result (λ emptied. emptied ≡ nat_lt (new_log_sectors - (self.old.log.head - self.old.log.tail)) sectors) }
+        ensures room { OnOk result (self.new.log.head + sectors ≤ self.new.log.tail + new_log_sectors) }
         ensures head { self.new.log.head ≡ self.old.log.head }
         ensures kept { (s : State) → IsMounted s → Told (D.state dev.old) (IsKept self.old.log self.old.homes s)
             → OnOk result (Told (D.state dev.new) (IsKept self.new.log self.new.homes s)) }
         ensures released { (s : State) (upto : ℕ) → IsMounted s → Told (D.state dev.old) (IsKept self.old.log self.old.homes s)
             → IfOk result (λ emptied. IsTrue emptied → Told (D.state dev.new) (IsKept self.new.log self.new.homes (with_released s upto))) }
         ensures passed { (s : State) → IsMounted s → Told (D.state dev.old) (IsKept self.old.log self.old.homes s)
-            → Passed (λ image. ReplaysAs image s.tree) (D.state dev.old) (D.state dev.new) }
+            → Passed (λ image. ReplaysAs s.layout.device_sectors image s.tree) (D.state dev.old) (D.state dev.new) }
         ensures onward { Onward (D.state dev.old) (D.state dev.new) }
         ensures cause { HasCause (D.state dev.old).write_faults (D.state dev.new).write_faults result }
     {
@@ -115,7 +116,7 @@ impl Journal {
     /// Writes all homes and moves the log's tail to its head, where the log has anything.
     pub fn empty<D: BlockDev>(&mut self, dev: &mut D) -> Result<(), DevFault>
         requires idle { IsIdle self.old }
-        requires size { 9220 ≤ (D.state dev.old).size }
+        requires size { sectors_needed ≤ (D.state dev.old).size }
         ensures idle { OnOk result (IsIdle self.new) }
         ensures ready { self.new.ready ≡ self.old.ready }
         ensures empty { OnOk result (self.new.log.tail ≡ self.new.log.head) }
@@ -125,7 +126,7 @@ impl Journal {
         ensures released { (s : State) (upto : ℕ) → IsMounted s → Told (D.state dev.old) (IsKept self.old.log self.old.homes s)
             → OnOk result (Told (D.state dev.new) (IsKept self.new.log self.new.homes (with_released s upto))) }
         ensures passed { (s : State) → IsMounted s → Told (D.state dev.old) (IsKept self.old.log self.old.homes s)
-            → Passed (λ image. ReplaysAs image s.tree) (D.state dev.old) (D.state dev.new) }
+            → Passed (λ image. ReplaysAs s.layout.device_sectors image s.tree) (D.state dev.old) (D.state dev.new) }
         ensures onward { Onward (D.state dev.old) (D.state dev.new) }
         ensures cause { HasCause (D.state dev.old).write_faults (D.state dev.new).write_faults result }
     {
@@ -142,11 +143,11 @@ impl Journal {
     /// Empties the log and leaves the file system clean.
     pub fn unmount<D: BlockDev>(&mut self, dev: &mut D) -> Result<(), DevFault>
         requires idle { IsIdle self.old }
-        requires size { 9220 ≤ (D.state dev.old).size }
+        requires size { sectors_needed ≤ (D.state dev.old).size }
         ensures clean { (s : State) → IsMounted s → Told (D.state dev.old) (IsKept self.old.log self.old.homes s)
-            → OnOk result (Told (D.state dev.new) (IsLeft s.tree)) }
+            → OnOk result (Told (D.state dev.new) (IsLeft s.layout.device_sectors s.tree)) }
         ensures passed { (s : State) → IsMounted s → Told (D.state dev.old) (IsKept self.old.log self.old.homes s)
-            → Passed (λ image. ReplaysAs image s.tree) (D.state dev.old) (D.state dev.new) }
+            → Passed (λ image. ReplaysAs s.layout.device_sectors image s.tree) (D.state dev.old) (D.state dev.new) }
         ensures onward { Onward (D.state dev.old) (D.state dev.new) }
         ensures cause { HasCause (D.state dev.old).write_faults (D.state dev.new).write_faults result }
     {

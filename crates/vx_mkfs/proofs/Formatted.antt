@@ -1,5 +1,5 @@
 -- What a device would hold after a barrier, as it is formatted.
-use Rattle.std.proofs.Common.{◌≡◌, ◌≢◌, ◌⊎◌, ℕ, ◌+◌, ◌<◌, List, Option, Some, None, refl, sym, subst, arith, inl, inr, true}
+use Rattle.std.proofs.Common.{◌≡◌, ◌≢◌, ◌⊎◌, ℕ, ◌+◌, ◌<◌, List, Option, Some, None, refl, sym, subst, arith, inl, inr, true, ◌≤◌, lit<, lit≤}
 use Rattle.std.specs.Prelude.{IfSome, option_map, Result, Ok, Err, OnOk}
 use Rattle.std.proofs.lemmas.Bool.{cases_eq}
 use Rattle.vx_dev.specs.declared.device.Operation.{Operation}
@@ -8,13 +8,14 @@ use Rattle.vx_dev.specs.Laws.{TapeLaws}
 use Rattle.vx_dev.specs.Tape.{Tape, State, Did, did, now, Settles}
 use Rattle.vx_layout.specs.declared.superblock.Super.{Super}
 use Rattle.vx_layout.specs.LogForms.{head_sector}
-use Rattle.vx_layout.specs.Places.{Volume, bitmap_sector}
+use Rattle.vx_layout.specs.Places.{Volume, bitmap_sector, sectors_of}
 use Rattle.vx_layout.specs.Supers.{IsSuper, super_bytes, volume_of}
 use Rattle.vx_log.specs.Moments.{Told}
+use Rattle.vx_model.specs.Contents.{unit_sectors, unit_bytes, IsFormatted}
 use Rattle.vx_model.specs.Reads.{ImageReadsAs}
 use Rattle.vx_model.specs.Replays.{IsLeft}
 use Rattle.vx_model.specs.Tree.{empty_root}
-use Rattle.vx_mkfs.specs.Formats.{unit_bytes, HasUnit, HasUnits, IsFormattedVolume}
+use Rattle.vx_mkfs.specs.Formats.{HasUnit, HasUnits, IsNewImage}
 
 -- ---- one operation after another
 
@@ -53,34 +54,34 @@ IsWithin v u k t = HasUnits v u t × HasUnit v u k t
 pub unit_begun : (v : Volume) (u : ℕ) (d : State) → Told d (HasUnits v u) → Told d (IsWithin v u 0)
 unit_begun v u d h = told_as d (HasUnits v u) (IsWithin v u 0) (λ t units. (units, λ i lt. absurd (omega (arith, lt)))) h
 
-all_units : (v : Volume) (u : ℕ) (t : Tape) → IsWithin v u 66 t → (w : ℕ) → w < u + 1 → (w ≡ u) ⊎ (w ≢ u) → HasUnit v w 66 t
-all_units v u t h w lt (inl same) = subst (λ (x : ℕ). HasUnit v x 66 t) (sym same) h.1
+all_units : (v : Volume) (u : ℕ) (t : Tape) → IsWithin v u (unit_sectors v) t → (w : ℕ) → w < u + 1 → (w ≡ u) ⊎ (w ≢ u) → HasUnit v w (unit_sectors v) t
+all_units v u t h w lt (inl same) = subst (λ (x : ℕ). HasUnit v x (unit_sectors v) t) (sym same) h.1
 all_units v u t h w lt (inr other) = h.0 w (omega arith)
 
-pub unit_done : (v : Volume) (u : ℕ) (d : State) → Told d (IsWithin v u 66) → Told d (HasUnits v (u + 1))
-unit_done v u d h = told_as d (IsWithin v u 66) (HasUnits v (u + 1)) (λ t within w lt. all_units v u t within w lt (cases_eq w u)) h
+pub unit_done : (v : Volume) (u : ℕ) (d : State) → Told d (IsWithin v u (unit_sectors v)) → Told d (HasUnits v (u + 1))
+unit_done v u d h = told_as d (IsWithin v u (unit_sectors v)) (HasUnits v (u + 1)) (λ t within w lt. all_units v u t within w lt (cases_eq w u)) h
 
 module _ (laws : TapeLaws) (s : Super) where
   abbrev v : Volume
   v = volume_of s
 
   next_sector : (u k : ℕ) (t : Tape) → HasUnit v u k t → (i : ℕ) → i < k + 1 → (i ≡ k) ⊎ (i ≢ k)
-      → Settles (did (Put (bitmap_sector v u + k) (unit_bytes u k)) t) (bitmap_sector v u + i) (unit_bytes u i)
+      → Settles (did (Put (bitmap_sector v u + k) (unit_bytes 2 u k)) t) (bitmap_sector v u + i) (unit_bytes 2 u i)
   next_sector u k t h i lt (inl same) =
-      subst (λ (j : ℕ). Settles (did (Put (bitmap_sector v u + k) (unit_bytes u k)) t) (bitmap_sector v u + j) (unit_bytes u j)) (sym same)
-      (laws.put_settles t (bitmap_sector v u + k) (unit_bytes u k))
+      subst (λ (j : ℕ). Settles (did (Put (bitmap_sector v u + k) (unit_bytes 2 u k)) t) (bitmap_sector v u + j) (unit_bytes 2 u j)) (sym same)
+      (laws.put_settles t (bitmap_sector v u + k) (unit_bytes 2 u k))
   next_sector u k t h i lt (inr other) =
-      laws.put_elsewhere t (bitmap_sector v u + k) (bitmap_sector v u + i) (unit_bytes u k) (unit_bytes u i) (λ e. other (omega (arith, e)))
+      laws.put_elsewhere t (bitmap_sector v u + k) (bitmap_sector v u + i) (unit_bytes 2 u k) (unit_bytes 2 u i) (λ e. other (omega (arith, e)))
       (h i (omega arith))
 
-  put_sector : (u k : ℕ) (t : Tape) → k < 66 → IsWithin v u k t → IsWithin v u (k + 1) (did (Put (bitmap_sector v u + k) (unit_bytes u k)) t)
+  put_sector : (u k : ℕ) (t : Tape) → k < 66 → IsWithin v u k t → IsWithin v u (k + 1) (did (Put (bitmap_sector v u + k) (unit_bytes 2 u k)) t)
   put_sector u k t low h = (
-    λ w lt i below. laws.put_elsewhere t (bitmap_sector v u + k) (bitmap_sector v w + i) (unit_bytes u k) (unit_bytes w i) (λ e. omega arith) (h.0 w lt i below),
+    λ w lt i below. laws.put_elsewhere t (bitmap_sector v u + k) (bitmap_sector v w + i) (unit_bytes 2 u k) (unit_bytes 2 w i) (λ e. omega arith) (h.0 w lt i below),
     λ i lt. next_sector u k t h.1 i lt (cases_eq i k),
   )
 
-  pub unit_more : (u k : ℕ) (old new : State) → k < 66 → Did (Put (bitmap_sector v u + k) (unit_bytes u k)) old new → Told old (IsWithin v u k) → Told new (IsWithin v u (k + 1))
-  unit_more u k old new low put h = told_more (Put (bitmap_sector v u + k) (unit_bytes u k)) old new (IsWithin v u k) (IsWithin v u (k + 1)) put (λ t had. put_sector u k t low had) h
+  pub unit_more : (u k : ℕ) (old new : State) → k < 66 → Did (Put (bitmap_sector v u + k) (unit_bytes 2 u k)) old new → Told old (IsWithin v u k) → Told new (IsWithin v u (k + 1))
+  unit_more u k old new low put h = told_more (Put (bitmap_sector v u + k) (unit_bytes 2 u k)) old new (IsWithin v u k) (IsWithin v u (k + 1)) put (λ t had. put_sector u k t low had) h
 
   -- ---- the log's head and the superblock
 
@@ -92,52 +93,60 @@ module _ (laws : TapeLaws) (s : Super) where
 
   put_head : (t : Tape) → HasUnits v s.units t → HasHead (did (Put 2 (head_sector 1 0 0)) t)
   put_head t h = (
-    λ u lt i below. laws.put_elsewhere t 2 (bitmap_sector v u + i) (head_sector 1 0 0) (unit_bytes u i) (λ e. omega arith) (h u lt i below),
+    λ u lt i below. laws.put_elsewhere t 2 (bitmap_sector v u + i) (head_sector 1 0 0) (unit_bytes 2 u i) (λ e. omega arith) (h u lt i below),
     laws.put_settles t 2 (head_sector 1 0 0),
   )
 
   pass_head : (t : Tape) → HasHead t → HasHead (did Barrier t)
-  pass_head t h = (λ u lt i below. laws.barrier_settles t (bitmap_sector v u + i) (unit_bytes u i) (h.0 u lt i below), laws.barrier_settles t 2 (head_sector 1 0 0) h.1)
+  pass_head t h = (λ u lt i below. laws.barrier_settles t (bitmap_sector v u + i) (unit_bytes 2 u i) (h.0 u lt i below), laws.barrier_settles t 2 (head_sector 1 0 0) h.1)
 
   put_superblock : (t : Tape) → HasHead t → HasAll (did (Put 0 (super_bytes s)) t)
   put_superblock t h = (
     (
-      λ u lt i below. laws.put_elsewhere t 0 (bitmap_sector v u + i) (super_bytes s) (unit_bytes u i) (λ e. omega arith) (h.0 u lt i below),
+      λ u lt i below. laws.put_elsewhere t 0 (bitmap_sector v u + i) (super_bytes s) (unit_bytes 2 u i) (λ e. omega arith) (h.0 u lt i below),
       laws.put_elsewhere t 0 2 (super_bytes s) (head_sector 1 0 0) (λ e. omega arith) h.1,
     ),
     laws.put_settles t 0 (super_bytes s),
   )
 
-  pub sized : (settled super new : State) → Did (Put 0 (super_bytes s)) settled super → Did Barrier super new → Told new (λ t. now t 0 ≡ super_bytes s)
-  sized settled super new third last =
-      let Q : Tape → Type 0 = λ t. Settles t 0 (super_bytes s) in
-      told_more Barrier super new Q (λ t. now t 0 ≡ super_bytes s) last (λ t h. h (now (did Barrier t) 0) (laws.now_may (did Barrier t) 0))
-      (told_more (Put 0 (super_bytes s)) settled super (λ t. t ≡ t) Q third (λ t _. laws.put_settles t 0 (super_bytes s)) (always settled.told (λ t. t ≡ t) (λ t. refl)))
+  pass_all : (t : Tape) → HasAll t → IsNewImage s (did Barrier t)
+  pass_all t h = record {
+    one = λ q x may. laws.barrier_leaves_one t q x may;
+    superblock = h.1 (now (did Barrier t) 0) (laws.now_may (did Barrier t) 0);
+    head = h.0.1 (now (did Barrier t) 2) (laws.now_may (did Barrier t) 2);
+    units = λ u i lt below. h.0.0 u lt i below (now (did Barrier t) (bitmap_sector v u + i)) (laws.now_may (did Barrier t) (bitmap_sector v u + i));
+  }
 
-  module _ (is : IsSuper s) (clean : s.clean ≡ true)
-      (reads : (image : ℕ → List ℕ) → IsFormattedVolume v image → ImageReadsAs v image empty_root) where
-    pass_all : (t : Tape) → HasAll t → IsLeft empty_root (did Barrier t)
-    pass_all t h = record {
-      one = λ q x may. laws.barrier_leaves_one t q x may;
-      clean = record {
-        superblock = s;
-        is_super = is;
-        superblock_is = h.1 (now (did Barrier t) 0) (laws.now_may (did Barrier t) 0);
-        clean = clean;
-        serial = 1;
-        tail = 0;
-        head_is = h.0.1 (now (did Barrier t) 2) (laws.now_may (did Barrier t) 2);
-        reads = reads (now (did Barrier t))
-            (λ u i lt below. h.0.0 u lt i below (now (did Barrier t) (bitmap_sector v u + i)) (laws.now_may (did Barrier t) (bitmap_sector v u + i)));
-      };
-    }
+  -- after the steps behind the units
+  pub formatted : (units head settled super new : State) → Told units (HasUnits v s.units)
+      → Did (Put 2 (head_sector 1 0 0)) units head → Did Barrier head settled → Did (Put 0 (super_bytes s)) settled super → Did Barrier super new
+      → Told new (IsNewImage s)
+  formatted units head settled super new h first second third last =
+      told_more Barrier super new HasAll (IsNewImage s) last pass_all
+      (told_more (Put 0 (super_bytes s)) settled super HasHead HasAll third put_superblock
+      (told_more Barrier head settled HasHead HasHead second pass_head
+      (told_more (Put 2 (head_sector 1 0 0)) units head (HasUnits v s.units) HasHead first put_head h)))
 
-    -- after the steps behind the units
-    pub formatted : (units head settled super new : State) → Told units (HasUnits v s.units)
-        → Did (Put 2 (head_sector 1 0 0)) units head → Did Barrier head settled → Did (Put 0 (super_bytes s)) settled super → Did Barrier super new
-        → Told new (IsLeft empty_root)
-    formatted units head settled super new h first second third last =
-        told_more Barrier super new HasAll (IsLeft empty_root) last pass_all
-        (told_more (Put 0 (super_bytes s)) settled super HasHead HasAll third put_superblock
-        (told_more Barrier head settled HasHead HasHead second pass_head
-        (told_more (Put 2 (head_sector 1 0 0)) units head (HasUnits v s.units) HasHead first put_head h)))
+-- a new image whose superblock is marked clean was left clean
+module _ (s : Super) (is : IsSuper s) (device_sectors : ℕ) (room : sectors_of (volume_of s) ≤ device_sectors) (clean : s.clean ≡ true)
+    (reads : (image : ℕ → List ℕ) → IsFormatted (volume_of s) image → ImageReadsAs (volume_of s) image empty_root) where
+  left_by : (t : Tape) → IsNewImage s t → IsLeft device_sectors empty_root t
+  left_by t new = record {
+    one = new.one;
+    clean = record {
+      superblock = s;
+      is_super = is;
+      superblock_is = new.superblock;
+      clean = clean;
+      room = room;
+      serial = 1;
+      tail = 0;
+      serial_limit = lit< tt;
+      limit = lit≤ tt;
+      head_is = new.head;
+      reads = reads (now t) new.units;
+    };
+  }
+
+  pub left : (d : State) → Told d (IsNewImage s) → Told d (IsLeft device_sectors empty_root)
+  left d new = told_as d (IsNewImage s) (IsLeft device_sectors empty_root) left_by new

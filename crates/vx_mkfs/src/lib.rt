@@ -3,10 +3,8 @@
 
 mod device;
 mod formatting;
-mod laws;
 
 pub use formatting::make;
-pub use laws::formatted_reads;
 
 #[cfg(test)]
 mod tests;

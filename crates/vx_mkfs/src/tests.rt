@@ -6,6 +6,13 @@ use std::alloc::{AllocError, Global};
 use std::test::Fail;
 use vx_base::NumList;
 use vx_dev::{BlockDev, DevFault, Image, MemDisk};
+use vx_layout::Super;
+
+const TWO_UNITS: Super = Super {
+    log_blocks: 512,
+    units: 2,
+    clean: true,
+};
 
 /// A disk of zeros for two units, with room for the operations, that fails these calls.
 fn disk(alloc: Global, failing: &[u64]) -> Result<MemDisk, AllocError>
@@ -19,7 +26,7 @@ fn disk(alloc: Global, failing: &[u64]) -> Result<MemDisk, AllocError>
 #[test]
 fn two_units(rt: HostRuntime) -> Result<(), Fail> {
     let mut disk = disk(rt.alloc(), &[])?;
-    make(&mut disk, 512, 2)?;
+    make(&mut disk, &TWO_UNITS)?;
     assert_eq!(rt; disk.ops(), 136);
     let mut sector = [0; 512];
     disk.read(0, &mut sector)?;
@@ -32,7 +39,7 @@ fn two_units(rt: HostRuntime) -> Result<(), Fail> {
 #[test]
 fn a_write_fails(rt: HostRuntime) -> Result<(), Fail> {
     let mut disk = disk(rt.alloc(), &[100])?;
-    assert_eq!(rt; make(&mut disk, 512, 2), Err(DevFault));
+    assert_eq!(rt; make(&mut disk, &TWO_UNITS), Err(DevFault));
     assert_eq!(rt; disk.ops(), 100);
     assert_eq!(rt; disk.write_faults(), 1);
     Ok(())

@@ -12,11 +12,13 @@ use Rattle.vx_base.specs.declared.event.Event.{Event}
 use Rattle.vx_base.specs.declared.event.Event.TheVariants as event
 use Rattle.vx_base.specs.declared.reply.Reply.{Reply}
 use Rattle.vx_model.specs.Legal.{World, at_of, after_all}
-use Rattle.vx_model.specs.Tree.{Tree}
+use Rattle.vx_model.specs.State.{State}
 use Rattle.vx_model.specs.Shapes.{shape}
 use Rattle.vx_model.specs.Replays.{ReplaysAs}
 use Rattle.vx_model.specs.Allowed.{come_by, call_of, call_at, is_durable, is_refusal, HoldsDurable, IsAllowed}
 use Rattle.vx_model.specs.AllowedLaws.{IsPlaced, IsQuiet}
+use Rattle.vx_model.proofs.GivenUp.{step_waits}
+use Rattle.vx_model.proofs.Histories.{kept_all}
 
 slice_get-front : {A : Type 0} (xs ys : List A) (i : ℕ) → i < length xs → slice_get (xs ++ ys) i ≡ slice_get xs i
 slice_get-front [] ys i lt = absurd (omega (arith, lt))
@@ -105,15 +107,20 @@ later opening history events m image placed quiet is = record {
       ∙ ap (λ (es : List Event). shape (after_all opening es).state.tree n) (sym (take-append-le is.events history events (omega (arith, is.come, come_within history m))));
 }
 
-pub front : (opening : World) (history events : List Event) (m : ℕ) (image : ℕ → List ℕ) (tree : Tree) → All (IsPlaced (length history)) history → AllByRecursion (IsQuiet m) events
-    → length history ≤ come_by history m → tree ≡ (after_all opening history).state.tree → ReplaysAs image tree → IsAllowed opening (history ++ events) m image
-front opening history events m image tree placed quiet came same replays = record {
-  tree = tree;
-  replays = replays;
+pub device : (opening : World) (history : List Event) → (after_all opening history).state.layout.device_sectors ≡ opening.state.layout.device_sectors
+device opening history =
+    kept_all (λ (s : State). s.layout.device_sectors ≡ opening.state.layout.device_sectors)
+    (λ s place session c done is stepped. (step_waits s place session c done stepped).same_device ∙ is) (λ s upto is. is) opening history refl
+
+pub front : (opening : World) (history events : List Event) (m : ℕ) (image : ℕ → List ℕ) (s : State) → All (IsPlaced (length history)) history → AllByRecursion (IsQuiet m) events
+    → length history ≤ come_by history m → (after_all opening history).state ≡ s → ReplaysAs s.layout.device_sectors image s.tree → IsAllowed opening (history ++ events) m image
+front opening history events m image s placed quiet came same replays = record {
+  tree = s.tree;
+  replays = subst (λ (n : ℕ). ReplaysAs n image s.tree) (ap (λ (x : State). x.layout.device_sectors) (sym same) ∙ device opening history) replays;
   events = length history;
   durable = durable_front history events m placed quiet;
   come = omega (arith, came, come-append history events m);
-  shape_is = λ n. ap (λ (t : Tree). shape t n) same ∙ ap (λ (es : List Event). shape (after_all opening es).state.tree n) (sym (take-append_seam history events));
+  shape_is = λ n. ap (λ (x : State). shape x.tree n) (sym same) ∙ ap (λ (es : List Event). shape (after_all opening es).state.tree n) (sym (take-append_seam history events));
 }
 
 -- ---- places

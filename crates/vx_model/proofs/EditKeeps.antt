@@ -101,6 +101,7 @@ module _ (s : State) (is : IsLaidOut s) (at : ℕ) (nodes : Nodes) (directories 
       units_limit = is.units_limit;
       log_blocks = is.log_blocks;
       limit = is.limit;
+      room = is.room;
       rest = ap (λ (t : Tree). record t { nodes = nodes }) is.rest;
     }
 
@@ -211,5 +212,6 @@ released_laid s upto is = record {
   units_limit = is.units_limit;
   log_blocks = is.log_blocks;
   limit = is.limit;
+  room = is.room;
   rest = is.rest;
 }

@@ -1,29 +1,32 @@
 -- A new image reads as the empty root.
 use Rattle.std.proofs.Common.{◌≡◌, ◌≢◌, ℕ, zero, suc, ◌+◌, ◌-◌, ◌*◌, ◌/◌, ◌%◌, ◌<◌, ◌≤◌, Bool, true, false, cond, List, [], ◌++◌, replicate, Option, None, Some, refl, sym, ap, subst, ◌∙◌, arith, inl, inr, lit<, lit≤}
-use Rattle.std.specs.Prelude.{◌||◌, ◌==◌, nat_lt, nat_le, is_some, IfSome}
+use Rattle.std.specs.Prelude.{◌||◌, ◌&&◌, ◌==◌, nat_lt, nat_le, is_some, IfSome}
 use Rattle.std.specs.Option.{option_map}
 use Rattle.std.specs.Ordering.{nat_cmp}
 use Rattle.std.specs.FinMap as map
-use Rattle.std.proofs.lemmas.Bool.{cases_eq, eqb-false, ltb-true, ltb-false, leb-false}
+use Rattle.std.proofs.lemmas.Bool.{cases_eq, ne_eqb, eqb-false, ltb-true, ltb-false, leb-false}
+use Rattle.std.proofs.lemmas.Nat.{div-add-mod'}
 use Rattle.vx_base.proofs.Maps.{at_key, at_other}
-use Rattle.vx_layout.specs.Places.{Volume, Place, outside, blank, bits, slots, part, per_block, unit_block, bitmap_sector, pair_sector, place_of, IsPlaceOf, sector_part}
+use Rattle.vx_layout.specs.Places.{Volume, Place, outside, blank, bits, slots, part, per_block, unit_block, sectors_of, bitmap_sector, pair_sector, place_of, IsPlaceOf, sector_part}
+use Rattle.vx_layout.specs.Supers.{IsSuper, volume_of}
+use Rattle.vx_layout.specs.declared.superblock.Super.{Super}
 use Rattle.vx_layout.specs.Bits.{bits_bytes}
 use Rattle.vx_layout.specs.Inodes.{slot_bytes}
 use Rattle.vx_layout.specs.Dirs.{dir_bytes}
 use Rattle.vx_layout.proofs.Standing.{place_is}
 use Rattle.vx_model.specs.Legal.{IfThere}
-use Rattle.vx_model.specs.Tree.{Node, new_directory}
-use Rattle.vx_model.specs.Layout.{Claim, volume, claim_below, claim_of}
-use Rattle.vx_model.specs.State.{State, fresh}
+use Rattle.vx_model.specs.Tree.{Node, new_directory, empty_root}
+use Rattle.vx_model.specs.Layout.{Claim, claim_below, claim_of}
+use Rattle.vx_model.specs.State.{State, fresh_of}
 use Rattle.vx_model.specs.Images.{Parsed, used_in, content, zero_sector, Stands}
 use Rattle.vx_model.specs.Reads.{ImageReadsAs}
-use Rattle.vx_model.specs.Contents.{inode_for, parsed_of, fresh_root, IsFormatted}
+use Rattle.vx_model.specs.Contents.{inode_for, parsed_of, fresh_root, unit_bytes, IsFormatted}
 use Rattle.vx_model.specs.LaidOut.{IsHeld, IsDirectoryNode, IsLaidOut}
 use Rattle.vx_model.proofs.Reading.{state_reads}
 
-module _ (log_blocks limit : ℕ) where
+module _ (w : Super) (limit sectors : ℕ) where
   abbrev new : State
-  new = fresh log_blocks limit
+  new = fresh_of w limit sectors
 
   no_node : (n : ℕ) → n ≢ 2 → map.get new.tree.nodes n ≡ None
   no_node n ne = at_other map.empty 2 (new_directory 493) n ne ∙ map.get-empty nat_cmp n
@@ -36,20 +39,22 @@ module _ (log_blocks limit : ℕ) where
   none_below b zero = refl
   none_below b (suc n) = none_below b n
 
-  pub fresh_laid : log_blocks ≤ 2048 → limit ≤ 1 → IsLaidOut new
-  fresh_laid short one = record {
+  pub fresh_laid : IsSuper w → limit ≤ 1 → sectors_of (volume_of w) ≤ sectors → IsLaidOut new
+  fresh_laid is one room = record {
     nodes = λ n. elim (cases_eq n 2) [
-      | inl e ↦ subst (λ (k : ℕ). IsHeld new.layout k (map.get new.tree.nodes k)) (sym e) (subst (IsHeld new.layout 2) (sym root_node) ((lit≤ tt, refl), lit≤ tt, lit< tt))
+      | inl e ↦ subst (λ (k : ℕ). IsHeld new.layout k (map.get new.tree.nodes k)) (sym e)
+          (subst (IsHeld new.layout 2) (sym root_node) ((lit≤ tt, refl), lit≤ tt, omega (arith, is.units_low)))
       | inr ne ↦ subst (IsHeld new.layout n) (sym (no_node n ne)) refl
     ];
     blocks = λ n. tt;
     once = λ n m b has other. absurd cc;
     not_pending = λ n b has. refl;
     has_root = subst (λ (o : Option Node). IfThere o IsDirectoryNode) (sym root_node) tt;
-    units = lit< tt;
-    units_limit = lit≤ tt;
-    log_blocks = short;
+    units = is.units_low;
+    units_limit = is.units_high;
+    log_blocks = is.log_high;
     limit = one;
+    room = room;
     rest = refl;
   }
 
@@ -87,61 +92,78 @@ or_none : (a c : Bool) → c ≡ false → (a || c) ≡ a
 or_none true c h = refl
 or_none false c h = h
 
-module _ (log_blocks limit : ℕ) (short : log_blocks ≤ 2048) (one : limit ≤ 1) (image : ℕ → List ℕ) (is : IsFormatted (volume (fresh log_blocks limit).layout) image) where
+-- a sector of a new unit that is neither the bitmap nor the root's
+zeros_there : (u i : ℕ) → i ≢ 0 → (u == 0 && i == 3) ≡ false → unit_bytes 2 u i ≡ zero_sector
+unfolding zero_sector
+zeros_there u i ne other = let first : (i == 0) ≡ false = ne_eqb i 0 ne in rw (first, other) refl
+
+other_pair : (u i : ℕ) → (u ≡ 0 → i ≡ 3 → ⊥) → (u == 0 && i == 3) ≡ false
+other_pair u i ne = elim (cases_eq u 0) [
+  | inl zero_ ↦ let third : (i == 3) ≡ false = ne_eqb i 3 (ne zero_) in rw (zero_, third) refl
+  | inr more ↦ let later : (u == 0) ≡ false = ne_eqb u 0 more in rw later refl
+]
+
+module _ (w : Super) (limit sectors : ℕ) (is_super : IsSuper w) (image : ℕ → List ℕ) (is : IsFormatted (volume_of w) image) where
   abbrev v : Volume
-  v = volume (fresh log_blocks limit).layout
+  v = volume_of w
+
+  abbrev first : ℕ
+  first = 2 + w.log_blocks
 
   abbrev p : Parsed
-  p = parsed_of (fresh log_blocks limit)
+  p = parsed_of (fresh_of w limit sectors)
 
-  unclaimed : (b : ℕ) → claim_of (fresh log_blocks limit).layout b ≡ None
-  unclaimed b = none_below log_blocks limit b (128 * (fresh log_blocks limit).layout.units)
+  unclaimed : (b : ℕ) → claim_of (fresh_of w limit sectors).layout b ≡ None
+  unclaimed b = none_below w limit sectors b (128 * w.units)
 
   free : (n : ℕ) → n ≢ 2 → p.inodes n ≡ None
-  free n ne = ap (option_map (inode_for [])) (no_node log_blocks limit n ne)
+  free n ne = ap (option_map (inode_for [])) (no_node w limit sectors n ne)
 
   root_inode : p.inodes 2 ≡ Some fresh_root
-  root_inode = ap (option_map (inode_for [])) (root_node log_blocks limit)
+  root_inode = ap (option_map (inode_for [])) (root_node w limit sectors)
 
   abbrev Holds : ℕ → Place → Type 0
   Holds s q = IfSome (content v p q) (λ bytes. image s ≡ bytes)
 
-  bitmap_bits : (j : ℕ) → nat_lt j 33 ≡ used_in v p 0 j
-  bitmap_bits j = sym (or_none (nat_lt j 33) _ (ap (λ (o : Option Claim). is_some (option_map (λ (c : Claim). c.ino) o)) (unclaimed (unit_block v 0 + j))))
+  bitmap_bits : (u j : ℕ) → nat_lt j 33 ≡ used_in v p u j
+  bitmap_bits u j = sym (or_none (nat_lt j 33) _ (ap (λ (o : Option Claim). is_some (option_map (λ (c : Claim). c.ino) o)) (unclaimed (unit_block v u + j))))
 
-  bitmap_holds : (s : ℕ) → s ≡ bitmap_sector v 0 → image s ≡ bits_bytes (used_in v p 0)
-  bitmap_holds s at = ap image at ∙ is.bitmap ∙ (λ i. bits_bytes (λ j. bitmap_bits j i))
+  bitmap_holds : (s u : ℕ) → u < w.units → s ≡ bitmap_sector v u → image s ≡ bits_bytes (used_in v p u)
+  bitmap_holds s u lt at =
+      let start : s ≡ bitmap_sector v u + 0 = omega (arith, at) in
+      ap image start ∙ is u 0 lt (lit< tt) ∙ (λ i. bits_bytes (λ j. bitmap_bits u j i))
 
   root_holds : (s : ℕ) → s ≡ pair_sector v 1 → image s ≡ slot_bytes (p.inodes 2) ++ slot_bytes (p.inodes 3)
-  root_holds s at = ap image at ∙ is.root_pair ∙ (λ i. slot_bytes (sym root_inode i) ++ slot_bytes (sym (free 3 (λ e. absurd (omega arith))) i))
+  root_holds s at =
+      let start : s ≡ bitmap_sector v 0 + 3 = omega (arith, at) in
+      ap image start ∙ is 0 3 is_super.units_low (lit< tt) ∙ (λ i. slot_bytes (sym root_inode i) ++ slot_bytes (sym (free 3 (λ e. absurd (omega arith))) i))
 
-  free_holds : (s k : ℕ) → k < 64 → k ≢ 1 → s ≡ pair_sector v k → image s ≡ slot_bytes (p.inodes (2 * k)) ++ slot_bytes (p.inodes (2 * k + 1))
+  free_holds : (s k : ℕ) → k < 64 * w.units → k ≢ 1 → s ≡ pair_sector v k → image s ≡ slot_bytes (p.inodes (2 * k)) ++ slot_bytes (p.inodes (2 * k + 1))
   free_holds s k lt ne at =
-      let start : pair_sector v k ≡ bitmap_sector v 0 + (2 + k) = omega arith in
-      let root_at : pair_sector v 1 ≡ bitmap_sector v 0 + 3 = omega arith in
-      is.zeros s (omega arith) (omega arith) (λ e. omega arith) ∙ sym two_halves
+      let whole = div-add-mod' k 64 in
+      let start : s ≡ bitmap_sector v (k / 64) + (2 + k % 64) = omega (arith, at) in
+      let none = zeros_there (k / 64) (2 + k % 64) (λ e. omega arith) (other_pair (k / 64) (2 + k % 64) (λ a b. ne (omega (arith, a, b, whole)))) in
+      ap image start ∙ is (k / 64) (2 + k % 64) (omega arith) (omega arith) ∙ none ∙ sym two_halves
       ∙ (λ i. slot_bytes (sym (free (2 * k) (λ e. omega arith)) i) ++ slot_bytes (sym (free (2 * k + 1) (λ e. omega arith)) i))
 
   blank_holds : (s : ℕ) → IsSpare v s → image s ≡ zero_sector
   blank_holds s there =
       let from = there.from in
-      let unit = there.unit in
+      let unit : (s - first * 2) / 8192 < w.units = there.unit in
       let past = there.past in
       let within = there.within in
-      let root_at : pair_sector v 1 ≡ bitmap_sector v 0 + 3 = omega arith in
-      let only : s ≡ bitmap_sector v 0 + 1 = omega arith in
-      is.zeros s (omega arith) (omega arith) (λ e. omega arith)
+      let whole = div-add-mod' (s - first * 2) 8192 in
+      let only : s ≡ bitmap_sector v ((s - first * 2) / 8192) + 1 = omega arith in
+      ap image only ∙ is ((s - first * 2) / 8192) 1 unit (lit< tt) ∙ zeros_there ((s - first * 2) / 8192) 1 (λ e. absurd cc) (other_pair ((s - first * 2) / 8192) 1 (λ a b. absurd cc))
 
   holds : (s : ℕ) (q : Place) → (q ≡ blank → IsSpare v s) → IsPlaceOf v s q → Holds s q
   holds s outside there at = tt
   holds s blank there at = blank_holds s (there refl)
-  holds s (bits u) there at =
-      let zero_ : u ≡ 0 = omega (arith, at.0) in
-      subst (λ (w : ℕ). s ≡ bitmap_sector v w → image s ≡ bits_bytes (used_in v p w)) (sym zero_) (bitmap_holds s) at.1
+  holds s (bits u) there at = bitmap_holds s u at.0 at.1
   holds s (slots k) there at =
       elim (cases_eq k 1) [
-        | inl e ↦ subst (λ (w : ℕ). s ≡ pair_sector v w → Holds s (slots w)) (sym e) (root_holds s) at.1
-        | inr ne ↦ free_holds s k (omega (arith, at.0)) ne at.1
+        | inl e ↦ subst (λ (j : ℕ). s ≡ pair_sector v j → Holds s (slots j)) (sym e) (root_holds s) at.1
+        | inr ne ↦ free_holds s k at.0 ne at.1
       ]
   holds s (part b j) there at =
       subst (λ (o : Option Claim). IfSome (option_map (λ es. sector_part j (dir_bytes 1024 es)) (option_map (λ (c : Claim). c.entries) o)) (λ bytes. image s ≡ bytes)) (sym (unclaimed b)) tt
@@ -149,5 +171,7 @@ module _ (log_blocks limit : ℕ) (short : log_blocks ≤ 2048) (one : limit ≤
   pub fresh_stands : Stands v p image
   fresh_stands s = holds s (place_of v s) (spare v s) (place_is v s (record { some = lit< tt; even = refl }))
 
-  pub fresh_reads : ImageReadsAs v image (fresh log_blocks limit).tree
-  fresh_reads = state_reads (fresh log_blocks limit) image (fresh_laid log_blocks limit short one) fresh_stands
+pub fresh_reads : (w : Super) (image : ℕ → List ℕ) → IsSuper w → IsFormatted (volume_of w) image → ImageReadsAs (volume_of w) image empty_root
+fresh_reads w image is formatted =
+    let sectors : ℕ = sectors_of (volume_of w) in
+    state_reads (fresh_of w 1 sectors) image (fresh_laid w 1 sectors is (lit≤ tt) (omega arith)) (fresh_stands w 1 sectors is image formatted)

@@ -117,6 +117,7 @@ with_waits place s new ino blocks more is =
     let Q : Layout → Type 0 = λ l. Waits place s (record { tree = new.tree; layout = l }) in
     subst Q (sym is) (record {
       same_volume = refl;
+      same_device = refl;
       claimed = λ b h. left_below place s.layout (with_blocks s.layout ino blocks) b (λ k was. inl (grown_by s.layout ino blocks k b (k == ino) refl more was)) (128 * s.layout.units) h;
       pending = λ b. inl refl;
     })
@@ -126,6 +127,7 @@ with_waits place s new ino blocks more is =
 pub waits_same : (place : ℕ) (s new : State) → new.layout ≡ s.layout → Waits place s new
 waits_same place s new is = record {
   same_volume = ap volume is;
+  same_device = ap (λ (l : Layout). l.device_sectors) is;
   claimed = λ b h. inl (ap (λ l. is_some (claim_of l b)) is ∙ h);
   pending = λ b. inl (ap (λ (l : Layout). l.pending b) is);
 }
@@ -140,6 +142,7 @@ waits_on place b a c w h =
 pub waits_next : (place : ℕ) (a b c : State) → Waits place a b → Waits place b c → Waits place a c
 waits_next place a b c w v = record {
   same_volume = v.same_volume ∙ w.same_volume;
+  same_device = v.same_device ∙ w.same_device;
   claimed = λ x h. elim (w.claimed x h) [
     | inl still ↦ v.claimed x still
     | inr waits ↦ inr (waits_on place x b c v waits)
@@ -227,6 +230,7 @@ dropped_by place l ino k b false is h = inl h
 pub drop_waits : (place : ℕ) (s : State) (ino : ℕ) → Waits place s (drop_node s place ino)
 drop_waits place s ino = record {
   same_volume = refl;
+  same_device = refl;
   claimed = λ b h. left_below place s.layout (freed s.layout place ino) b (λ k was. dropped_by place s.layout ino k b (k == ino) refl was) (128 * s.layout.units) h;
   pending = λ b. pended_else place (blocks_at s.layout ino) s.layout.pending b;
 }
@@ -393,6 +397,7 @@ waits_kept place o p (inr here) = inr (ap (kept_pending place) here ∙ keeps_ow
 released_waits : (s new : State) (place : ℕ) → Waits place s new → Waits place (with_released s place) (with_released new place)
 released_waits s new place w = record {
   same_volume = w.same_volume;
+  same_device = w.same_device;
   claimed = λ b h. elim (w.claimed b (ap is_some (sym (released_claim s.layout place b (128 * s.layout.units))) ∙ h)) [
     | inl still ↦ inl (ap is_some (released_claim new.layout place b (128 * new.layout.units)) ∙ still)
     | inr waits ↦ inr (ap (kept_pending place) waits ∙ keeps_own place)

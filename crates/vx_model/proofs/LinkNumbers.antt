@@ -272,9 +272,9 @@ released_links s upto is = record { low = is.low; links = is.links }
 
 -- ---- a new file system
 
-module _ (log_blocks limit : ℕ) where
+module _ (log_blocks limit sectors : ℕ) where
   abbrev start : State
-  start = fresh log_blocks limit
+  start = fresh log_blocks limit sectors
 
   no_entries : map.len (map.empty {X = ℕ} {R = slice_cmp nat_cmp}) ≡ 0
   no_entries = map.len-empty (slice_cmp nat_cmp) ℕ
@@ -314,5 +314,5 @@ module _ (log_blocks limit : ℕ) where
 
 -- ---- histories
 
-pub history_links : (log_blocks limit at : ℕ) (es : List Event) → HasLinks (after_all (opening at (fresh log_blocks limit)) es).state
-history_links log_blocks limit at es = kept_all HasLinks step_links released_links (opening at (fresh log_blocks limit)) es (fresh_links log_blocks limit)
+pub history_links : (log_blocks limit sectors at : ℕ) (es : List Event) → HasLinks (after_all (opening at (fresh log_blocks limit sectors)) es).state
+history_links log_blocks limit sectors at es = kept_all HasLinks step_links released_links (opening at (fresh log_blocks limit sectors)) es (fresh_links log_blocks limit sectors)

@@ -266,27 +266,27 @@ module _ (s : State) (is : HasLinks s) (none : HasNoLoops s.tree.nodes) where
 
 -- ---- histories
 
-fresh_leaf : (log_blocks limit q : ℕ) → IsLeaf (fresh log_blocks limit).tree.nodes q
-fresh_leaf log_blocks limit q x =
-    let nodes : Nodes = (fresh log_blocks limit).tree.nodes in
+fresh_leaf : (log_blocks limit sectors q : ℕ) → IsLeaf (fresh log_blocks limit sectors).tree.nodes q
+fresh_leaf log_blocks limit sectors q x =
+    let nodes : Nodes = (fresh log_blocks limit sectors).tree.nodes in
     elim (cases_eq q 2) [
       | inl e ↦ ap (λ (k : ℕ). lookup nodes k x) e ∙ ap (meaning_in x) (at_key map.empty 2 (new_directory 493)) ∙ map.get-empty (slice_cmp nat_cmp) x
       | inr ne ↦ ap (meaning_in x) (at_other map.empty 2 (new_directory 493) q ne ∙ map.get-empty nat_cmp q)
     ]
 
-fresh_loops : (log_blocks limit : ℕ) → HasNoLoops (fresh log_blocks limit).tree.nodes
-fresh_loops log_blocks limit i r =
-    let nodes : Nodes = (fresh log_blocks limit).tree.nodes in
+fresh_loops : (log_blocks limit sectors : ℕ) → HasNoLoops (fresh log_blocks limit sectors).tree.nodes
+fresh_loops log_blocks limit sectors i r =
+    let nodes : Nodes = (fresh log_blocks limit sectors).tree.nodes in
     let first = walk_first nodes i r.first r.rest i r.walked in
-    let c : None ≡ Some first.0 = sym (fresh_leaf log_blocks limit i r.first) ∙ first.1 in
+    let c : None ≡ Some first.0 = sym (fresh_leaf log_blocks limit sectors i r.first) ∙ first.1 in
     absurd cc
 
 abbrev IsSound : State → Type 0
 IsSound s = HasLinks s × HasNoLoops s.tree.nodes
 
-pub history_loops : (log_blocks limit at : ℕ) (es : List Event) → HasNoLoops (after_all (opening at (fresh log_blocks limit)) es).state.tree.nodes
-history_loops log_blocks limit at es =
+pub history_loops : (log_blocks limit sectors at : ℕ) (es : List Event) → HasNoLoops (after_all (opening at (fresh log_blocks limit sectors)) es).state.tree.nodes
+history_loops log_blocks limit sectors at es =
     (kept_all IsSound
     (λ s place session c done h is. (step_links s place session c done h.0 is, step_loops s h.0 h.1 place session c done is))
     (λ s upto h. (released_links s upto h.0, h.1))
-    (opening at (fresh log_blocks limit)) es (fresh_links log_blocks limit, fresh_loops log_blocks limit)).1
+    (opening at (fresh log_blocks limit sectors)) es (fresh_links log_blocks limit sectors, fresh_loops log_blocks limit sectors)).1

@@ -1,13 +1,13 @@
--- An image replays as one tree at most.
+-- An image replays as one tree at most, and a clean one replays.
 use Rattle.std.proofs.Common.{◌≡◌, ℕ, ◌+◌, ◌*◌, ◌<◌, ◌^◌, List, [], length, refl, sym, ap, subst, ◌∙◌, arith}
 use Rattle.std.specs.List.{AllByRecursion}
 use Rattle.std.proofs.lemmas.List.{ext_get_or}
 use Rattle.vx_layout.specs.declared.superblock.Super.{Super}
 use Rattle.vx_layout.specs.LogForms.{AfterImage, IsRecord, head_sector, log_at, log_sectors, overlay_all}
-use Rattle.vx_layout.specs.Places.{Volume, IsVolume, per_block, sectors_of}
+use Rattle.vx_layout.specs.Places.{Volume, IsVolume, per_block}
 use Rattle.vx_layout.specs.Supers.{IsSuper, super_bytes, volume_of}
 use Rattle.vx_model.specs.Reads.{ImageReadsAs, SpelledOnce}
-use Rattle.vx_model.specs.Replays.{HasRecords, ReplaysAs}
+use Rattle.vx_model.specs.Replays.{HasRecords, IsClean, ReplaysAs}
 use Rattle.vx_model.specs.Tree.{Tree}
 
 -- what is spelled alike is the same
@@ -28,15 +28,42 @@ module _ (laws : Laws) (image : ℕ → List ℕ) where
       (λ i lt. sym (a.whole i lt) ∙ ap (λ (p : ℕ). image (log_at n (p + i))) ends.0 ∙ b.whole i (omega (arith, lt, count))) in
       laws.records n size more a.tail rs qs a.form b.form (same ∙ sym (ap (λ (p : ℕ). log_sectors p qs) ends.0))
 
-  pub replays_once : (t u : Tree) → ((s : Super) → SpelledOnce (volume_of s)) → ReplaysAs image t → ReplaysAs image u → t ≡ u
-  replays_once t u once a b =
+  pub replays_once : (m n : ℕ) (t u : Tree) → ((s : Super) → SpelledOnce (volume_of s)) → ReplaysAs m image t → ReplaysAs n image u → t ≡ u
+  replays_once m n t u once a b =
       let first : b.first ≡ a.first = laws.supers b.first a.first b.is_first a.is_first (sym b.first_is ∙ a.first_is) in
-      let log : HasRecords (2 * a.first.log_blocks) (sectors_of (volume_of b.superblock)) image b.records =
-      subst (λ (s : Super). HasRecords (2 * s.log_blocks) (sectors_of (volume_of b.superblock)) image b.records) first b.log in
-      let records : b.records ≡ a.records = logs_same (2 * a.first.log_blocks) (sectors_of (volume_of b.superblock)) (sectors_of (volume_of a.superblock)) b.records a.records log a.log in
+      let log : HasRecords (2 * a.first.log_blocks) n image b.records = subst (λ (s : Super). HasRecords (2 * s.log_blocks) n image b.records) first b.log in
+      let records : b.records ≡ a.records = logs_same (2 * a.first.log_blocks) n m b.records a.records log a.log in
       let super : b.superblock ≡ a.superblock = laws.supers b.superblock a.superblock b.is_super a.is_super
       (sym b.superblock_is ∙ ap (λ (rs : List (List AfterImage)). overlay_all rs 0 (image 0)) records ∙ a.superblock_is) in
       let over : (List (List AfterImage)) → ℕ → List ℕ = λ rs s. overlay_all rs s (image s) in
       let other : ImageReadsAs (volume_of a.superblock) (over a.records) u =
       subst (λ (s : Super). ImageReadsAs (volume_of s) (over a.records) u) super (subst (λ (rs : List (List AfterImage)). ImageReadsAs (volume_of b.superblock) (over rs) u) records b.reads) in
       laws.reads (volume_of a.superblock) (over a.records) t u (laws.volume a.superblock) refl (once a.superblock) a.reads other
+
+-- a log that holds nothing has no records
+pub clean_replays : (device_sectors : ℕ) (image : ℕ → List ℕ) (t : Tree) → IsClean device_sectors image t → ReplaysAs device_sectors image t
+clean_replays device_sectors image t c = record {
+  first = c.superblock;
+  is_first = c.is_super;
+  first_is = c.superblock_is;
+  first_room = c.room;
+  records = [];
+  superblock = c.superblock;
+  is_super = c.is_super;
+  superblock_is = c.superblock_is;
+  same_log = refl;
+  room = c.room;
+  log = record {
+    serial = c.serial;
+    tail = c.tail;
+    head = c.tail;
+    serial_limit = c.serial_limit;
+    limit = c.limit;
+    form = tt;
+    head_is = c.head_is;
+    ends = omega arith;
+    fits = omega arith;
+    whole = λ i lt. absurd (omega arith);
+  };
+  reads = c.reads;
+}

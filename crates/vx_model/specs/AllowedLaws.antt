@@ -4,7 +4,7 @@ use Rattle.std.specs.List.{AllByRecursion}
 use Rattle.vx_base.specs.declared.event.Event.{Event}
 use Rattle.vx_base.specs.declared.event.Event.TheVariants as event
 use Rattle.vx_model.specs.Legal.{World, at_of, after_all}
-use Rattle.vx_model.specs.Tree.{Tree}
+use Rattle.vx_model.specs.State.{State}
 use Rattle.vx_model.specs.Replays.{ReplaysAs}
 use Rattle.vx_model.specs.Allowed.{come_by, is_refusal, IsAllowed}
 
@@ -24,8 +24,10 @@ pub record AllowedLaws : Type 0 where
   pub later : (opening : World) (history events : List Event) (m : ℕ) (image : ℕ → List ℕ) → All (IsPlaced (length history)) history → AllByRecursion (IsQuiet m) events
       → IsAllowed opening history m image → IsAllowed opening (history ++ events) m image
   -- an image of the tree after a first part of the history is allowed, where all of that part has come and the rest is quiet
-  pub front : (opening : World) (history events : List Event) (m : ℕ) (image : ℕ → List ℕ) (tree : Tree) → All (IsPlaced (length history)) history → AllByRecursion (IsQuiet m) events
-      → length history ≤ come_by history m → tree ≡ (after_all opening history).state.tree → ReplaysAs image tree → IsAllowed opening (history ++ events) m image
+  pub front : (opening : World) (history events : List Event) (m : ℕ) (image : ℕ → List ℕ) (s : State) → All (IsPlaced (length history)) history → AllByRecursion (IsQuiet m) events
+      → length history ≤ come_by history m → (after_all opening history).state ≡ s → ReplaysAs s.layout.device_sectors image s.tree → IsAllowed opening (history ++ events) m image
+  -- the device stays the same
+  pub device : (opening : World) (history : List Event) → (after_all opening history).state.layout.device_sectors ≡ opening.state.layout.device_sectors
   -- events at m or earlier have all come by then
   pub come : (history events : List Event) (m : ℕ) → AllByRecursion (λ e. at_of e ≤ m) events → come_by (history ++ events) m ≡ come_by history m + length events
   -- each Ret of a longer history answers a Do of it

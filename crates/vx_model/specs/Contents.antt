@@ -1,18 +1,18 @@
 -- What an image of a state says.
-use Rattle.std.specs.Prelude.{◌≡◌, ◌≢◌, ℕ, ◌+◌, ◌*◌, ◌<◌, nat_lt, List, [], ◌∷◌, ◌++◌, length, replicate, Option, Some, None}
+use Rattle.std.specs.Prelude.{◌≡◌, ℕ, ◌+◌, ◌*◌, ◌<◌, ◌==◌, ◌&&◌, nat_lt, List, [], ◌∷◌, ◌++◌, length, replicate, Option, Some, None, if◌then◌else◌}
 use Rattle.std.specs.Option.{option_map}
 use Rattle.std.specs.FinMap as map
 use Rattle.vx_base.specs.declared.kind.FileKind.TheVariants.{File, Directory}
 use Rattle.vx_base.specs.declared.kind.Kind.TheVariants.{Data}
 use Rattle.vx_base.specs.declared.inode.Extent.{Extent}
 use Rattle.vx_base.specs.declared.inode.InodeValue.{InodeValue}
-use Rattle.vx_layout.specs.Places.{Volume, bitmap_sector, pair_sector}
+use Rattle.vx_layout.specs.Places.{Volume, bitmap_sector, first_data, per_block}
 use Rattle.vx_layout.specs.Bits.{bits_bytes}
 use Rattle.vx_layout.specs.Inodes.{slot_bytes}
 use Rattle.vx_model.specs.Tree.{Node, IsFile, IsDirectory, no_attrs, new_directory}
 use Rattle.vx_model.specs.Layout.{DirectoryBlock, Claim, blocks_at, claim_of}
 use Rattle.vx_model.specs.State.{State}
-use Rattle.vx_model.specs.Images.{Parsed, zero_sector}
+use Rattle.vx_model.specs.Images.{Parsed}
 
 -- ---- inodes
 
@@ -62,9 +62,20 @@ parsed_of s = record {
 abbrev pub fresh_root : InodeValue
 fresh_root = inode_for [] (new_directory 493)
 
--- Unit 0 of a volume of one unit after formatting: the bitmap has the blocks of the bitmap and the inodes, the root is in
--- use, and the rest of these 33 blocks is zeros.
-pub record IsFormatted (v : Volume) (image : ℕ → List ℕ) : Type 0 where
-  pub bitmap : image (bitmap_sector v 0) ≡ bits_bytes (λ j. nat_lt j 33)
-  pub root_pair : image (pair_sector v 1) ≡ slot_bytes (Some fresh_root) ++ replicate 256 0
-  pub zeros : (s : ℕ) → bitmap_sector v 0 < s → s < bitmap_sector v 0 + 66 → s ≢ pair_sector v 1 → image s ≡ zero_sector
+-- the bitmap of a new unit: its own block and those of the inodes are in use
+abbrev pub new_bitmap : (per_block : ℕ) → List ℕ
+new_bitmap per_block = bits_bytes (λ j. nat_lt j (first_data per_block))
+
+-- Sector i of new unit u. The unit's bitmap stands first. The only inode in use is the root, which is inode 2, the first of the
+-- second pair of unit 0.
+abbrev pub unit_bytes : (per_block u i : ℕ) → List ℕ
+unit_bytes per_block u i =
+    if i == 0 then new_bitmap per_block else (if u == 0 && i == per_block + 1 then slot_bytes (Some fresh_root) ++ slot_bytes None else replicate 512 0)
+
+-- the sectors of a unit that formatting writes: those of its bitmap's block, and one for each pair of inodes
+abbrev pub unit_sectors : Volume → ℕ
+unit_sectors v = per_block v + 64
+
+-- the bitmap and the inodes of each unit are those of a new file system
+abbrev pub IsFormatted : Volume → (ℕ → List ℕ) → Type 0
+IsFormatted v image = (u i : ℕ) → u < v.units → i < unit_sectors v → image (bitmap_sector v u + i) ≡ unit_bytes (per_block v) u i

@@ -3,7 +3,7 @@ use Rattle.std.specs.Prelude.{◌≡◌, ℕ, true, ◌*◌, ◌<◌, ◌≤◌,
 use Rattle.std.specs.List.{flat_map}
 use Rattle.std.specs.FinMap as map
 use Rattle.vx_base.specs.declared.inode.DirEntry.{DirEntry}
-use Rattle.vx_layout.specs.Places.{is_data}
+use Rattle.vx_layout.specs.Places.{is_data, sectors_of}
 use Rattle.vx_layout.specs.Dirs.{IsDir}
 use Rattle.vx_model.specs.Legal.{IfThere}
 use Rattle.vx_model.specs.Tree.{Node, File, IsFile, IsDirectory, no_attrs, tree_of_nodes}
@@ -60,4 +60,5 @@ pub record IsLaidOut (s : State) : Type 0 where
   pub units_limit : s.layout.units ≤ 64
   pub log_blocks : s.layout.log_blocks ≤ 2048
   pub limit : s.layout.directory_limit ≤ 1
+  pub room : sectors_of (volume s.layout) ≤ s.layout.device_sectors
   pub rest : s.tree ≡ tree_of_nodes s.tree.nodes

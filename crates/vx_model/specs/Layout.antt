@@ -15,10 +15,11 @@ pub record DirectoryBlock : Type 0 where
   pub entries : List DirEntry
 
 -- The layout state. A directory's blocks stand in page order, by its inode number. A block that was freed waits, with the place
--- of the event that freed it, until the log has passed that event.
+-- of the event that freed it, until the log has passed that event. The device's number of sectors never changes.
 pub record Layout : Type 0 where
   pub log_blocks : ℕ
   pub units : ℕ
+  pub device_sectors : ℕ
   pub directory_limit : ℕ
   pub directories : ℕ → List DirectoryBlock
   pub pending : ℕ → Option ℕ

@@ -1,7 +1,8 @@
 -- What a mount stands for at one moment, and what a call leaves.
-use Rattle.std.specs.Prelude.{ℕ, [], None, Ok, Err}
+use Rattle.std.specs.Prelude.{ℕ, false, [], None, Ok, Err}
 use Rattle.vx_base.specs.declared.reply.Reply.{Reply}
 use Rattle.vx_base.specs.declared.reply.Reply.TheVariants as say
+use Rattle.vx_layout.specs.declared.superblock.Super.{Super}
 use Rattle.vx_model.specs.Outcome.{Maybe}
 use Rattle.vx_model.specs.Tree.{Tree, empty_root}
 use Rattle.vx_model.specs.Layout.{Layout}
@@ -20,9 +21,20 @@ abbrev pub settled : State → Maybe Done → Done
 settled s (Ok done) = done
 settled s (Err why) = record { state = s; reply = say.Refused why }
 
--- a new file system with a log of so many blocks, and the most blocks that a directory may have
-abbrev pub fresh : ℕ → ℕ → State
-fresh log_blocks directory_limit = record {
+-- a new file system of these sizes, the most blocks that a directory may have, and the device's number of sectors
+abbrev pub fresh_of : Super → ℕ → ℕ → State
+fresh_of v directory_limit device_sectors = record {
   tree = empty_root;
-  layout = record { log_blocks = log_blocks; units = 1; directory_limit = directory_limit; directories = λ n. []; pending = λ b. None };
+  layout = record {
+    log_blocks = v.log_blocks;
+    units = v.units;
+    device_sectors = device_sectors;
+    directory_limit = directory_limit;
+    directories = λ n. [];
+    pending = λ b. None;
+  };
 }
+
+-- one of one unit, with a log of so many blocks
+abbrev pub fresh : ℕ → ℕ → ℕ → State
+fresh log_blocks = fresh_of (record { log_blocks = log_blocks; units = 1; clean = false })

@@ -12,6 +12,7 @@ is_claimed s b = is_some (claim_of s.layout b)
 -- a block that a directory had has one still or waits for the event at this place, and no other begins or ceases to wait
 pub record Waits (place : ℕ) (s new : State) : Type 0 where
   pub same_volume : volume new.layout ≡ volume s.layout
+  pub same_device : new.layout.device_sectors ≡ s.layout.device_sectors
   pub claimed : (b : ℕ) → is_claimed s b ≡ true → (is_claimed new b ≡ true) ⊎ (new.layout.pending b ≡ Some place)
   pub pending : (b : ℕ) → (new.layout.pending b ≡ s.layout.pending b) ⊎ (new.layout.pending b ≡ Some place)
 

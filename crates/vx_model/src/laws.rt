@@ -47,14 +47,14 @@ pub fn renamed_moves_one_name()
 
 /// In a new file system and all that calls make of it, link numbers are the numbers of names.
 pub fn link_numbers()
-    ensures fresh { (log_blocks limit : ℕ) → HasLinks (fresh log_blocks limit) }
+    ensures fresh { (log_blocks limit sectors : ℕ) → HasLinks (fresh log_blocks limit sectors) }
     ensures step { (s : State) (place session : ℕ) (c : Call) (done : Done) → HasLinks s → step s place session c ≡ Some done → HasLinks done.state }
     ensures released { (s : State) (upto : ℕ) → HasLinks s → HasLinks (with_released s upto) }
-    ensures history { (log_blocks limit at : ℕ) (events : List Event) → HasLinks (after_all (opening at (fresh log_blocks limit)) events).state }
+    ensures history { (log_blocks limit sectors at : ℕ) (events : List Event) → HasLinks (after_all (opening at (fresh log_blocks limit sectors)) events).state }
 {}
 
 /// In a new file system and all that calls make of it, no inode is below itself.
 pub fn loops()
     ensures step { (s : State) → HasLinks s → HasNoLoops s.tree.nodes → (place session : ℕ) (c : Call) (done : Done) → step s place session c ≡ Some done → HasNoLoops done.state.tree.nodes }
-    ensures history { (log_blocks limit at : ℕ) (events : List Event) → HasNoLoops (after_all (opening at (fresh log_blocks limit)) events).state.tree.nodes }
+    ensures history { (log_blocks limit sectors at : ℕ) (events : List Event) → HasNoLoops (after_all (opening at (fresh log_blocks limit sectors)) events).state.tree.nodes }
 {}

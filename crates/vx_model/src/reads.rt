@@ -5,7 +5,7 @@ ghost use Rattle.vx_model.specs.Tree.{Tree};
 ghost use Rattle.vx_layout.specs.Supers.{volume_of};
 ghost use Rattle.vx_layout.specs.declared.superblock.Super.{Super};
 ghost use Rattle.vx_model.specs.Reads.{ImageReadsAs, SpelledOnce};
-ghost use Rattle.vx_model.specs.Replays.{ReplaysAs};
+ghost use Rattle.vx_model.specs.Replays.{IsClean, ReplaysAs};
 
 use vx_layout::{log_spelling, places, super_places, super_spelling};
 
@@ -23,10 +23,15 @@ pub fn reads_alike()
 
 /// An image replays as one tree at most: its superblock, its log's head and its records have one spelling each too.
 pub fn replays_once()
-    ensures { (image : ℕ → List ℕ) (t u : Tree) → ((s : Super) → SpelledOnce (volume_of s)) → ReplaysAs image t → ReplaysAs image u → t ≡ u }
+    ensures { (m n : ℕ) (image : ℕ → List ℕ) (t u : Tree) → ((s : Super) → SpelledOnce (volume_of s)) → ReplaysAs m image t → ReplaysAs n image u → t ≡ u }
 {
     super_places();
     super_spelling();
     log_spelling();
     reads_once();
 }
+
+/// An image that was left clean replays as its tree.
+pub fn clean_replays()
+    ensures { (device_sectors : ℕ) (image : ℕ → List ℕ) (t : Tree) → IsClean device_sectors image t → ReplaysAs device_sectors image t }
+{}

@@ -1,8 +1,11 @@
 //! What an image of each state says.
 ghost use Rattle.std.specs.Prelude.{◌≡◌, ◌*◌, ◌<◌, ◌≤◌, ℕ, List, [], ◌∷◌, Some, None};
 ghost use Rattle.std.specs.FinMap as map;
-ghost use Rattle.vx_model.specs.Tree.{Nodes, lowest_unused};
-ghost use Rattle.vx_model.specs.State.{State, fresh};
+ghost use Rattle.vx_layout.specs.Places.{sectors_of};
+ghost use Rattle.vx_layout.specs.Supers.{IsSuper, volume_of};
+ghost use Rattle.vx_layout.specs.declared.superblock.Super.{Super};
+ghost use Rattle.vx_model.specs.Tree.{Nodes, empty_root, lowest_unused};
+ghost use Rattle.vx_model.specs.State.{State, fresh_of};
 ghost use Rattle.vx_model.specs.Layout.{DirectoryBlock, volume, blocks_at, claim_of};
 ghost use Rattle.vx_model.specs.Images.{Stands};
 ghost use Rattle.vx_model.specs.Reads.{ImageReadsAs};
@@ -14,13 +17,11 @@ pub fn state_reads()
     ensures { (s : State) (image : ℕ → List ℕ) → IsLaidOut s → Stands (volume s.layout) (parsed_of s) image → ImageReadsAs (volume s.layout) image s.tree }
 {}
 
-/// A formatted image says the fresh state, and so it reads as the root alone.
+/// A formatted image, of any sizes that a superblock may say, says the fresh state, and so it reads as the root alone.
 pub fn fresh_reads()
-    ensures laid_out { (log_blocks limit : ℕ) → log_blocks ≤ 2048 → limit ≤ 1 → IsLaidOut (fresh log_blocks limit) }
-    ensures stands { (log_blocks limit : ℕ) → log_blocks ≤ 2048 → limit ≤ 1 → (image : ℕ → List ℕ) → IsFormatted (volume (fresh log_blocks limit).layout) image
-        → Stands (volume (fresh log_blocks limit).layout) (parsed_of (fresh log_blocks limit)) image }
-    ensures reads { (log_blocks limit : ℕ) → log_blocks ≤ 2048 → limit ≤ 1 → (image : ℕ → List ℕ) → IsFormatted (volume (fresh log_blocks limit).layout) image
-        → ImageReadsAs (volume (fresh log_blocks limit).layout) image (fresh log_blocks limit).tree }
+    ensures laid_out { (v : Super) (limit device_sectors : ℕ) → IsSuper v → limit ≤ 1 → sectors_of (volume_of v) ≤ device_sectors → IsLaidOut (fresh_of v limit device_sectors) }
+    ensures stands { (v : Super) (limit device_sectors : ℕ) (image : ℕ → List ℕ) → IsSuper v → IsFormatted (volume_of v) image → Stands (volume_of v) (parsed_of (fresh_of v limit device_sectors)) image }
+    ensures reads { (v : Super) (image : ℕ → List ℕ) → IsSuper v → IsFormatted (volume_of v) image → ImageReadsAs (volume_of v) image empty_root }
 {}
 
 /// A block of a directory is that directory's, with its entries.

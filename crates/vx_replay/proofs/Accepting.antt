@@ -8,7 +8,7 @@ use Rattle.std.proofs.lemmas.List.{ext_get_or}
 use Rattle.vx_layout.specs.declared.superblock.Super.{Super}
 use Rattle.vx_layout.specs.declared.superblock.BadSuper.{BadSuper}
 use Rattle.vx_layout.specs.Fields.{number_at}
-use Rattle.vx_layout.specs.LogForms.{AfterImage, IsNameable, IsRecord, homes_of, head_sector, descriptor, log_at, log_sectors, record_sectors, overlay_all}
+use Rattle.vx_layout.specs.LogForms.{AfterImage, IsRecord, homes_of, head_sector, descriptor, log_at, log_sectors, record_sectors, overlay_all}
 use Rattle.vx_layout.specs.Places.{sectors_of}
 use Rattle.vx_layout.specs.Supers.{IsSuper, super_at, super_bytes, volume_of}
 use Rattle.vx_log.specs.Ends.{AreNames, IsEnds, ends_bytes}
@@ -43,26 +43,22 @@ stand_first n image position x xs h =
     let e : position + 0 ≡ position = omega arith in
     subst (λ (p : ℕ). image (log_at n p) ≡ x) e (h 0 (omega arith))
 
-nameable_on : (n small size : ℕ) (homes : List ℕ) → small ≤ size → AllByRecursion (IsNameable n small) homes → AllByRecursion (IsNameable n size) homes
-nameable_on n small size [] le h = tt
-nameable_on n small size (s ∷ homes) le h = (record { home = h.0.home; inside = omega (arith, le, h.0.inside); low = h.0.low }, nameable_on n small size homes le h.1)
-
-names_of : (n small size : ℕ) (r : List AfterImage) → small ≤ size → IsRecord n small r → AreNames n size (homes_of r)
-names_of n small size r le is = record {
+names_of : (n size : ℕ) (r : List AfterImage) → IsRecord n size r → AreNames n size (homes_of r)
+names_of n size r is = record {
   some = omega (arith, is.some, length-homes r);
   few = omega (arith, is.few, length-homes r);
   rising = is.rising;
-  each = nameable_on n small size (homes_of r) le is.homes;
+  each = is.homes;
 }
 
-module _ (laws : FormLaws) (n small size head : ℕ) (image : ℕ → List ℕ) (le : small ≤ size) where
+module _ (laws : FormLaws) (n size head : ℕ) (image : ℕ → List ℕ) where
   -- records that fill the log up to a position, where others fill it whole
   pub front_good : (tail : ℕ) (front qs : List (List AfterImage)) (position : ℕ) → AreRecords n size tail position front → StandThere n image tail (log_sectors tail front)
-      → AllByRecursion (IsRecord n small) qs → head ≡ tail + length (log_sectors tail qs) → StandThere n image tail (log_sectors tail qs) → position < head → HasNoRecord n size image position head → ⊥
+      → AllByRecursion (IsRecord n size) qs → head ≡ tail + length (log_sectors tail qs) → StandThere n image tail (log_sectors tail qs) → position < head → HasNoRecord n size image position head → ⊥
   front_good tail [] [] position are stand form ends whole before none = omega (arith, before, ends, are.ends)
   front_good tail [] (r ∷ qs) position are stand form ends whole before none =
       let here : position ≡ tail = are.ends ∙ (let e : tail + 0 ≡ tail = omega arith in e) in
-      let names = names_of n small size r le form.0 in
+      let names = names_of n size r form.0 in
       let first : image (log_at n tail) ≡ descriptor tail (homes_of r) = stand_first n image tail (descriptor tail (homes_of r)) _ whole in
       none (homes_of r) names
       (let next : ℕ = tail + (1 + length r) in omega (arith, here, ends, length-homes r, length-append (record_sectors tail r) (log_sectors next qs), length-images r))
@@ -95,7 +91,7 @@ ok_same v w e = cc
 not_bad : (v : Super) (field : ℕ) → ◌≡◌ {A = Result Super BadSuper} (Ok v) (bad field) → ⊥
 not_bad v field e = cc
 
-module _ (laws : FormLaws) (image : ℕ → List ℕ) (tree : Tree) (h : ReplaysAs image tree) (size : ℕ) (room_first : sectors_of (volume_of h.first) ≤ size) (room : sectors_of (volume_of h.superblock) ≤ size) where
+module _ (laws : FormLaws) (size : ℕ) (image : ℕ → List ℕ) (tree : Tree) (h : ReplaysAs size image tree) where
   abbrev n : ℕ
   n = 2 * h.first.log_blocks
 
@@ -104,15 +100,15 @@ module _ (laws : FormLaws) (image : ℕ → List ℕ) (tree : Tree) (h : Replays
 
   first_of : first_super size image ≡ Ok h.first
   first_of =
-      let some : size ≡ 0 → ⊥ = λ none. omega (arith, none, room_first) in
-      rw (ne_eqb size 0 some) (ap (checked_super size) h.first_is ∙ ap (with_room size) (laws.again h.first h.is_first) ∙ with_room_of h.first room_first)
+      let some : size ≡ 0 → ⊥ = λ none. omega (arith, none, h.first_room) in
+      rw (ne_eqb size 0 some) (ap (checked_super size) h.first_is ∙ ap (with_room size) (laws.again h.first h.is_first) ∙ with_room_of h.first h.first_room)
 
   last_of : checked_again size h.first.log_blocks (overlay_all h.records 0 (image 0)) ≡ Ok h.superblock
   last_of =
       let x : List ℕ = overlay_all h.records 0 (image 0) in
       let read : super_at x ≡ Ok h.superblock = ap super_at h.superblock_is ∙ laws.again h.superblock h.is_super in
       let level : with_log h.first.log_blocks x (Ok h.superblock) ≡ Ok h.superblock = rw (eq-eqb h.superblock.log_blocks h.first.log_blocks h.same_log) refl in
-      ap (λ (o : Result Super BadSuper). with_room size (with_log h.first.log_blocks x o)) read ∙ ap (with_room size) level ∙ with_room_of h.superblock room
+      ap (λ (o : Result Super BadSuper). with_room size (with_log h.first.log_blocks x o)) read ∙ ap (with_room size) level ∙ with_room_of h.superblock h.room
 
   same_first : (v : Super) → first_super size image ≡ Ok v → v ≡ h.first
   same_first v is = ok_same v h.first (sym is ∙ first_of)
@@ -127,7 +123,7 @@ module _ (laws : FormLaws) (image : ℕ → List ℕ) (tree : Tree) (h : Replays
       let count : length (log_sectors h.log.tail h.records) ≡ length (log_sectors log.ends.tail records) = omega (arith, h.log.ends, log.are.ends, ends.0, ends.1) in
       let same : log_sectors h.log.tail h.records ≡ log_sectors log.ends.tail records = ext_get_or [] (log_sectors h.log.tail h.records) (log_sectors log.ends.tail records) count
       (λ i lt. sym (h.log.whole i lt) ∙ ap (λ (p : ℕ). image (log_at n (p + i))) ends.0 ∙ log.stand i (omega (arith, lt, count))) in
-      sym (laws.records n (sectors_of (volume_of h.superblock)) size h.log.tail h.records records h.log.form log.are.form (same ∙ sym (ap (λ (p : ℕ). log_sectors p records) ends.0)))
+      sym (laws.records n size size h.log.tail h.records records h.log.form log.are.form (same ∙ sym (ap (λ (p : ℕ). log_sectors p records) ends.0)))
 
   pub super_good : (field : ℕ) → IsBadSuper size image field → ⊥
   super_good field (inl first) = not_bad h.first field (sym first_of ∙ first)
@@ -149,7 +145,7 @@ module _ (laws : FormLaws) (image : ℕ → List ℕ) (tree : Tree) (h : Replays
       by_why (inr w) =
           let ends = ends_same w.0 w.1 w.2 in
           let e = w.3 in
-          front_good laws n (sectors_of (volume_of h.superblock)) size h.log.head image room h.log.tail e.records h.records e.position
+          front_good laws n size h.log.head image h.log.tail e.records h.records e.position
           (subst (λ (p : ℕ). AreRecords n size p e.position e.records) (sym ends.0) e.are)
           (subst (λ (p : ℕ). StandThere n image p (log_sectors p e.records)) (sym ends.0) e.stand)
           h.log.form h.log.ends h.log.whole (omega (arith, e.before, ends.1)) (subst (λ (p : ℕ). HasNoRecord n size image e.position p) (sym ends.1) e.none)

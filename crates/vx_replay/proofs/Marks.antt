@@ -20,7 +20,7 @@ use Rattle.vx_replay.specs.ReplayLaws.{ReplayLaws}
 use Rattle.vx_replay.specs.Stopped.{IsEmptied}
 use Rattle.vx_replay.proofs.Reread.{good, marked, marked_super}
 
-module _ (laws : ReplayLaws) (sb : Super) (is_super : IsSuper sb) (tree : Tree) where
+module _ (laws : ReplayLaws) (size : ℕ) (sb : Super) (is_super : IsSuper sb) (room : sectors_of (volume_of sb) ≤ size) (tree : Tree) where
   abbrev n : ℕ
   n = 2 * sb.log_blocks
 
@@ -55,16 +55,16 @@ module _ (laws : ReplayLaws) (sb : Super) (is_super : IsSuper sb) (tree : Tree) 
   }
 
   abbrev Good : (ℕ → List ℕ) → Type 0
-  Good image = ReplaysAs image tree
+  Good image = ReplaysAs size image tree
 
   shows : (t : Tape) → IsMarking t → (image : ℕ → List ℕ) → IsImage t image → Good image
   shows t k image is =
       let rd = laws.image_reads n k.reading t image k.stands is in
-      let form : AllByRecursion (IsRecord n (sectors_of (volume_of sb))) k.reading.records = subst (AllByRecursion (IsRecord n (sectors_of (volume_of sb)))) (sym k.records) tt in
+      let form : AllByRecursion (IsRecord n size) k.reading.records = subst (AllByRecursion (IsRecord n size)) (sym k.records) tt in
       let bare : overlay_all k.reading.records 0 (image 0) ≡ image 0 = ap (λ (rs : List (List AfterImage)). overlay_all rs 0 (image 0)) k.records in
       elim (k.superblock (image 0) (is 0)) [
-        | inl before ↦ good laws tree sb sb refl is_super k.reading.contents k.reads k.reading sb.clean image k.serial k.limit form k.above (λ q. refl) rd (bare ∙ before) sb is_super before refl
-        | inr after ↦ good laws tree sb sb refl is_super k.reading.contents k.reads k.reading true image k.serial k.limit form k.above (λ q. refl) rd (bare ∙ after) (marked sb true) (marked_super sb true is_super) after refl
+        | inl before ↦ good laws tree size sb sb refl is_super room k.reading.contents k.reads k.reading sb.clean image k.serial k.limit form k.above (λ q. refl) rd (bare ∙ before) sb is_super before room refl
+        | inr after ↦ good laws tree size sb sb refl is_super room k.reading.contents k.reads k.reading true image k.serial k.limit form k.above (λ q. refl) rd (bare ∙ after) (marked sb true) (marked_super sb true is_super) after room refl
       ]
 
   shown : (d : Device) → Told d IsMarking → Told d (λ t. (image : ℕ → List ℕ) → IsImage t image → Good image)
@@ -106,7 +106,7 @@ module _ (laws : ReplayLaws) (sb : Super) (is_super : IsSuper sb) (tree : Tree) 
   abbrev IsSettling : Tape → Type 0
   IsSettling t = IsMarking t × Settles t 0 clean_bytes
 
-  left_at : (t : Tape) → IsSettling t → IsLeft tree (did Barrier t)
+  left_at : (t : Tape) → IsSettling t → IsLeft size tree (did Barrier t)
   left_at t h =
       let k = after_barrier t h.0 in
       let image : ℕ → List ℕ = now (did Barrier t) in
@@ -119,8 +119,11 @@ module _ (laws : ReplayLaws) (sb : Super) (is_super : IsSuper sb) (tree : Tree) 
           is_super = marked_super sb true is_super;
           superblock_is = h.1 (image 0) (is 0);
           clean = refl;
+          room = room;
           serial = k.reading.serial;
           tail = k.reading.head;
+          serial_limit = k.serial;
+          limit = k.limit;
           head_is = rd.head_is ∙ ap (λ (p : ℕ). head_sector k.reading.serial p k.reading.head) k.level;
           reads = laws.alike (volume_of sb) k.reading.contents image tree (laws.volume sb)
               (λ q place. sym (rd.metadata q (k.above q (laws.past_log sb q place))) ∙ ap (λ (rs : List (List AfterImage)). overlay_all rs q (image q)) k.records) k.reads;
@@ -160,6 +163,6 @@ module _ (laws : ReplayLaws) (sb : Super) (is_super : IsSuper sb) (tree : Tree) 
             (shown d (did_told Barrier b d IsSettling IsMarking passed (λ t h. after_barrier t h.0) (put_told b put)))
         by_result (Err e) passed nothing = passed_still Good b d nothing.told (put_shown b put)
 
-    pub marked_left : (b d : Device) (r : Result (Unit {0}) DevFault) → Did (Put 0 clean_bytes) a b → OnOk r (Did Barrier b d) → OnOk r (Told d (IsLeft tree))
-    marked_left b d (Ok x) put passed = did_told Barrier b d IsSettling (IsLeft tree) passed left_at (put_told b put)
+    pub marked_left : (b d : Device) (r : Result (Unit {0}) DevFault) → Did (Put 0 clean_bytes) a b → OnOk r (Did Barrier b d) → OnOk r (Told d (IsLeft size tree))
+    marked_left b d (Ok x) put passed = did_told Barrier b d IsSettling (IsLeft size tree) passed left_at (put_told b put)
     marked_left b d (Err e) put passed = tt

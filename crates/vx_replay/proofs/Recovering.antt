@@ -28,7 +28,7 @@ both_second false b e = absurd cc
 module _ (size : ℕ) (image : ℕ → List ℕ) (s : Stopped) (is_super : IsSuper s.superblock) (read : IsReadFrom size image s) where
   pub left_clean : (tree : Tree) → ((v w : Super) → IsSuper v → IsSuper w → super_bytes v ≡ super_bytes w → v ≡ w)
       → ((serial tail head serial2 tail2 head2 : ℕ) → tail < 2 ^ 64 → head < 2 ^ 64 → tail2 < 2 ^ 64 → head2 < 2 ^ 64 → head_sector serial tail head ≡ head_sector serial2 tail2 head2 → (tail ≡ tail2) × (head ≡ head2))
-      → ReplaysAs image tree → (s.superblock.clean && (s.log.tail == s.log.head)) ≡ true → IsClean image tree
+      → ReplaysAs size image tree → (s.superblock.clean && (s.log.tail == s.log.head)) ≡ true → IsClean size image tree
   left_clean tree supers heads h is =
       let level : s.log.tail ≡ s.log.head = eqb-true s.log.tail s.log.head (both_second s.superblock.clean (s.log.tail == s.log.head) is) in
       let e = read.is_ends in
@@ -49,8 +49,11 @@ module _ (size : ℕ) (image : ℕ → List ℕ) (s : Stopped) (is_super : IsSup
         is_super = h.is_super;
         superblock_is = here;
         clean = ap (λ (v : Super). v.clean) same ∙ both_first s.superblock.clean (s.log.tail == s.log.head) is;
+        room = h.room;
         serial = read.ends.serial;
         tail = read.ends.tail;
+        serial_limit = read.is_ends.serial;
+        limit = omega (arith, e.limit, even);
         head_is = read.head_is ∙ ap (λ (p : ℕ). head_sector read.ends.serial read.ends.tail p) (sym even);
         reads = subst (λ (rs : List (List AfterImage)). ImageReadsAs (volume_of h.superblock) (λ q. overlay_all rs q (image q)) tree) none h.reads;
       }

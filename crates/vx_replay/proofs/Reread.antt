@@ -113,15 +113,14 @@ marked_super s b is = record { log_low = is.log_low; log_high = is.log_high; uni
 
 -- ---- images
 
-module _ (laws : ReplayLaws) (tree : Tree) (sb first : Super) (same_log : sb.log_blocks ≡ first.log_blocks) (is_super : IsSuper sb) (over : ℕ → List ℕ)
+module _ (laws : ReplayLaws) (tree : Tree) (size : ℕ) (sb first : Super) (same_log : sb.log_blocks ≡ first.log_blocks) (is_super : IsSuper sb) (room : sectors_of (volume_of sb) ≤ size) (over : ℕ → List ℕ)
     (reads : ImageReadsAs (volume_of sb) over tree) where
   -- an image with such a log and such superblocks
-  pub good : (r : LogState) (b : Bool) (image : ℕ → List ℕ) → r.serial < 2 ^ 64 → r.head ≤ 2 ^ 62 → AllByRecursion (IsRecord (2 * first.log_blocks) (sectors_of (volume_of sb))) r.records
+  pub good : (r : LogState) (b : Bool) (image : ℕ → List ℕ) → r.serial < 2 ^ 64 → r.head ≤ 2 ^ 62 → AllByRecursion (IsRecord (2 * first.log_blocks) size) r.records
       → ((q : ℕ) → 4 + 2 * first.log_blocks ≤ q → IsTrue (r.is_metadata q)) → ((q : ℕ) → r.contents q ≡ over q) → ReadsAs (2 * first.log_blocks) r image
-      → overlay_all r.records 0 (image 0) ≡ super_bytes (marked sb b) → (v : Super) → IsSuper v → image 0 ≡ super_bytes v → v.log_blocks ≡ first.log_blocks → ReplaysAs image tree
-  good r b image serial limit form above contents rd last v is_v first_is same =
-      let vol : ℕ = sectors_of (volume_of sb) in
-      let log : HasRecords (2 * first.log_blocks) vol image r.records = record {
+      → overlay_all r.records 0 (image 0) ≡ super_bytes (marked sb b) → (v : Super) → IsSuper v → image 0 ≡ super_bytes v → sectors_of (volume_of v) ≤ size → v.log_blocks ≡ first.log_blocks → ReplaysAs size image tree
+  good r b image serial limit form above contents rd last v is_v first_is room_v same =
+      let log : HasRecords (2 * first.log_blocks) size image r.records = record {
         serial = r.serial;
         tail = r.tail;
         head = r.head;
@@ -137,12 +136,14 @@ module _ (laws : ReplayLaws) (tree : Tree) (sb first : Super) (same_log : sb.log
         first = v;
         is_first = is_v;
         first_is = first_is;
+        first_room = room_v;
         records = r.records;
         superblock = marked sb b;
         is_super = marked_super sb b is_super;
         superblock_is = last;
         same_log = same_log ∙ sym same;
-        log = subst (λ (k : ℕ). HasRecords (2 * k) vol image r.records) (sym same) log;
+        room = room;
+        log = subst (λ (k : ℕ). HasRecords (2 * k) size image r.records) (sym same) log;
         reads = laws.alike (volume_of sb) over (λ q. overlay_all r.records q (image q)) tree (laws.volume sb)
             (λ q place. sym (rd.metadata q (above q (let past : 4 + 2 * sb.log_blocks ≤ q = laws.past_log sb q place in omega (arith, past, same_log))) ∙ contents q)) reads;
       }
@@ -222,25 +223,25 @@ module _ (laws : ReplayLaws) (size : ℕ) (image : ℕ → List ℕ) (tree : Tre
 
   -- ---- images
 
-  module _ (form : AllByRecursion (IsRecord n (sectors_of (volume_of s.superblock))) read.records) (reads : ImageReadsAs (volume_of s.superblock) over tree) where
-    super_of : (x : List ℕ) → Contains values x → (v : Super) × IsSuper v × (x ≡ super_bytes v) × (v.log_blocks ≡ read.first.log_blocks)
+  module _ (reads : ImageReadsAs (volume_of s.superblock) over tree) where
+    super_of : (x : List ℕ) → Contains values x → (v : Super) × IsSuper v × (x ≡ super_bytes v) × (sectors_of (volume_of v) ≤ size) × (v.log_blocks ≡ read.first.log_blocks)
     super_of x has = elim (one_of_two (image 0) (over 0) x has) [
-      | inl start ↦ (read.first, read.is_first, sym start ∙ read.first_is, refl)
-      | inr last ↦ (s.superblock, is_super, sym last ∙ read.superblock_is, read.same_log)
+      | inl start ↦ (read.first, read.is_first, sym start ∙ read.first_is, read.first_room, refl)
+      | inr last ↦ (s.superblock, is_super, sym last ∙ read.superblock_is, read.room, read.same_log)
     ]
 
-    pub good_before : (other : ℕ → List ℕ) → ReadsAs n r0 other → Contains values (other 0) → ReplaysAs other tree
+    pub good_before : (other : ℕ → List ℕ) → ReadsAs n r0 other → Contains values (other 0) → ReplaysAs size other tree
     good_before other rd has =
         let v = super_of (other 0) has in
-        good laws tree s.superblock read.first read.same_log is_super over reads r0 s.superblock.clean other read.is_ends.serial read.is_ends.limit form (above_home n) (λ q. refl) rd
-        (rd.metadata 0 refl ∙ read.superblock_is) v.0 v.1 v.2 v.3
+        good laws tree size s.superblock read.first read.same_log is_super read.room over reads r0 s.superblock.clean other read.is_ends.serial read.is_ends.limit read.are.form (above_home n) (λ q. refl) rd
+        (rd.metadata 0 refl ∙ read.superblock_is) v.0 v.1 v.2 v.3 v.4
 
-    pub good_after : (other : ℕ → List ℕ) → ReadsAs n (emptied r0) other → ReplaysAs other tree
+    pub good_after : (other : ℕ → List ℕ) → ReadsAs n (emptied r0) other → ReplaysAs size other tree
     good_after other rd =
         let last : other 0 ≡ super_bytes s.superblock = rd.metadata 0 refl ∙ read.superblock_is in
         let low : next_serial read.ends.serial < 2 ^ 64 = omega arith in
-        good laws tree s.superblock read.first read.same_log is_super over reads (emptied r0) s.superblock.clean other low read.is_ends.limit tt (above_home n) (λ q. refl) rd
-        last s.superblock is_super last read.same_log
+        good laws tree size s.superblock read.first read.same_log is_super read.room over reads (emptied r0) s.superblock.clean other low read.is_ends.limit tt (above_home n) (λ q. refl) rd
+        last s.superblock is_super last read.room read.same_log
 
 -- ---- on a device of so many sectors
 

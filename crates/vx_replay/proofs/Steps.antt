@@ -1,15 +1,13 @@
 -- What a replay's steps on its device keep.
 use Rattle.std.proofs.Common.{◌≡◌, ◌⊎◌, ℕ, ◌+◌, ◌*◌, ◌<◌, ◌≤◌, ◌^◌, Bool, List, [], ◌∷◌, length, Option, Some, None, refl, sym, ap, subst, ◌∙◌, arith, inl, inr, Contains, length-append}
 use Rattle.std.specs.Prelude.{nat_le, IsTrue, IfSome, option_map}
-use Rattle.std.specs.List.{AllByRecursion}
 use Rattle.std.proofs.lemmas.Bool.{cases_lt, le-leb, lt-leb, leb-true}
 use Rattle.std.proofs.lemmas.List.{ext_get_or, take-append-le}
 use Rattle.vx_dev.specs.declared.device.Operation.{Operation}
 use Rattle.vx_dev.specs.declared.device.Operation.TheVariants.{Barrier}
 use Rattle.vx_dev.specs.Tape.{Tape, State as Device, Did, did, upto, MayHold, now, IsImage}
 use Rattle.vx_layout.specs.declared.superblock.Super.{Super}
-use Rattle.vx_layout.specs.LogForms.{AfterImage, IsRecord, LogState, ReadsAs, log_at, log_sectors, overlay_all}
-use Rattle.vx_layout.specs.Places.{sectors_of}
+use Rattle.vx_layout.specs.LogForms.{AfterImage, LogState, ReadsAs, log_at, log_sectors, overlay_all}
 use Rattle.vx_layout.specs.Supers.{IsSuper, super_bytes, volume_of}
 use Rattle.vx_log.specs.Crashes.{Stands, emptied}
 use Rattle.vx_log.specs.Moments.{Told, Always, Passed}
@@ -21,8 +19,10 @@ use Rattle.vx_model.specs.Reads.{ImageReadsAs}
 use Rattle.vx_model.specs.Replays.{HasRecords, ReplaysAs}
 use Rattle.vx_model.specs.Tree.{Tree}
 use Rattle.vx_replay.specs.ReplayLaws.{ReplayLaws}
+use Rattle.vx_replay.specs.LogReads.{IsRead, Shows}
 use Rattle.vx_replay.specs.Stopped.{IsReadFrom, IsReplayOf, IsEmptied}
 use Rattle.vx_replay.specs.declared.load.Stopped.{Stopped}
+use Rattle.vx_replay.proofs.LogReading.{still_shows}
 use Rattle.vx_replay.proofs.Reread as reread
 
 -- ---- what is told
@@ -50,14 +50,22 @@ passed_both Q R a b t is p q =
       always = told_at a (λ u. Always (length u.ops) (λ _ image. Q image × R image) (did_all p.ops u)) t is (λ m from to image at. (one m from to image at, other m from to image at));
     }
 
+-- what was read is still what the device shows
+pub replay_of : (old new : Device) (t : Tape) (tree : Tree) (s : Stopped) → IsRead old new → Shows old t → ReplaysAs old.size (now t) tree → IsReadFrom old.size (now t) s → IsReplayOf new t tree s
+replay_of old new t tree s is shows replays read = record {
+  shows = still_shows old new t is shows;
+  replays = subst (λ (size : ℕ). ReplaysAs size (now t) tree) (sym is.size) replays;
+  read = subst (λ (size : ℕ). IsReadFrom size (now t) s) (sym is.size) read;
+}
+
 -- ---- what was read is what the image replays by
 
-module _ (laws : ReplayLaws) (size : ℕ) (image : ℕ → List ℕ) (tree : Tree) (s : Stopped) (is_super : IsSuper s.superblock) (h : ReplaysAs image tree) (read : IsReadFrom size image s) where
+module _ (laws : ReplayLaws) (size : ℕ) (image : ℕ → List ℕ) (tree : Tree) (s : Stopped) (is_super : IsSuper s.superblock) (h : ReplaysAs size image tree) (read : IsReadFrom size image s) where
   first_same : h.first ≡ read.first
   first_same = laws.supers h.first read.first h.is_first read.is_first (sym h.first_is ∙ read.first_is)
 
-  log_read : HasRecords (2 * read.first.log_blocks) (sectors_of (volume_of h.superblock)) image h.records
-  log_read = subst (λ (v : Super). HasRecords (2 * v.log_blocks) (sectors_of (volume_of h.superblock)) image h.records) first_same h.log
+  log_read : HasRecords (2 * read.first.log_blocks) size image h.records
+  log_read = subst (λ (v : Super). HasRecords (2 * v.log_blocks) size image h.records) first_same h.log
 
   records_same : h.records ≡ read.records
   records_same =
@@ -72,15 +80,11 @@ module _ (laws : ReplayLaws) (size : ℕ) (image : ℕ → List ℕ) (tree : Tre
       let n : ℕ = 2 * read.first.log_blocks in
       let same : log_sectors a.tail h.records ≡ log_sectors read.ends.tail read.records = ext_get_or [] (log_sectors a.tail h.records) (log_sectors read.ends.tail read.records) count
       (λ i lt. sym (a.whole i lt) ∙ ap (λ (p : ℕ). image (log_at n (p + i))) ends.0 ∙ read.stand i (omega (arith, lt, count))) in
-      laws.records n (sectors_of (volume_of h.superblock)) size a.tail h.records read.records a.form read.are.form (same ∙ sym (ap (λ (p : ℕ). log_sectors p read.records) ends.0))
+      laws.records n size size a.tail h.records read.records a.form read.are.form (same ∙ sym (ap (λ (p : ℕ). log_sectors p read.records) ends.0))
 
   super_same : h.superblock ≡ s.superblock
   super_same = laws.supers h.superblock s.superblock h.is_super is_super
       (sym h.superblock_is ∙ ap (λ (rs : List (List AfterImage)). overlay_all rs 0 (image 0)) records_same ∙ read.superblock_is)
-
-  pub linked_form : AllByRecursion (IsRecord (2 * read.first.log_blocks) (sectors_of (volume_of s.superblock))) read.records
-  linked_form = subst (λ (v : Super). AllByRecursion (IsRecord (2 * read.first.log_blocks) (sectors_of (volume_of v))) read.records) super_same
-      (subst (AllByRecursion (IsRecord (2 * read.first.log_blocks) (sectors_of (volume_of h.superblock)))) records_same log_read.form)
 
   pub linked_reads : ImageReadsAs (volume_of s.superblock) (λ q. overlay_all read.records q (image q)) tree
   linked_reads = subst (λ (v : Super). ImageReadsAs (volume_of v) (λ q. overlay_all read.records q (image q)) tree) super_same
@@ -107,17 +111,14 @@ module _ (laws : ReplayLaws) (d0 d1 : Device) (t : Tape) (tree : Tree) (s : Stop
   some : 0 < n
   some = reread.some laws d0.size image tree s h.read is_super
 
-  form : AllByRecursion (IsRecord n (sectors_of (volume_of s.superblock))) h.read.records
-  form = linked_form laws d0.size image tree s is_super h.replays h.read
-
   reads : ImageReadsAs (volume_of s.superblock) over tree
   reads = linked_reads laws d0.size image tree s is_super h.replays h.read
 
   abbrev Good : (ℕ → List ℕ) → Type 0
-  Good other = ReplaysAs other tree
+  Good other = ReplaysAs d0.size other tree
 
   good_before : (other : ℕ → List ℕ) → ReadsAs n r0 other × Contains values (other 0) → Good other
-  good_before other both = reread.good_before laws d0.size image tree s h.read is_super form reads other both.0 both.1
+  good_before other both = reread.good_before laws d0.size image tree s h.read is_super reads other both.0 both.1
 
   abbrev t1 : Tape
   t1 = did Barrier t
@@ -226,7 +227,7 @@ module _ (laws : ReplayLaws) (d0 d1 : Device) (t : Tape) (tree : Tree) (s : Stop
         (passed_weaker (λ other. (ReadsAs s.log.sectors r0 other ⊎ ReadsAs s.log.sectors (emptied r0) other) × Contains values (other 0)) Good d2 d3
         (λ other is. elim is.0 [
           | inl before ↦ good_before other (subst (λ (k : ℕ). ReadsAs k r0 other) h.read.sectors before, is.1)
-          | inr after ↦ reread.good_after laws d0.size image tree s h.read is_super form reads other (subst (λ (k : ℕ). ReadsAs k (emptied r0) other) h.read.sectors after)
+          | inr after ↦ reread.good_after laws d0.size image tree s h.read is_super reads other (subst (λ (k : ℕ). ReadsAs k (emptied r0) other) h.read.sectors after)
         ]) both)
 
     pub emptied_left : ((r : LogState) → IsReading s.log r → Told d2 (AreHomesPut s.log.sectors r) → Told d3 (Stands s.log.sectors (emptied r))) → Told d3 (IsEmptied s.superblock tree)

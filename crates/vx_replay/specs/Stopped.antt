@@ -27,12 +27,14 @@ pub record CanCarry (size : ℕ) (s : Stopped) : Type 0 where
   pub area : 4 + s.log.sectors ≤ size
   pub inside : All (λ e. e.0 < size) s.homes
   pub superblock : IsSuper s.superblock
+  pub room : sectors_of (volume_of s.superblock) ≤ size
 
 -- what was read of an image on a device of so many sectors
 pub record IsReadFrom (size : ℕ) (image : ℕ → List ℕ) (s : Stopped) : Type 0 where
   pub first : Super
   pub is_first : IsSuper first
   pub first_is : image 0 ≡ super_bytes first
+  pub first_room : sectors_of (volume_of first) ≤ size
   pub checked : first_super size image ≡ Ok first
   pub ends : Ends
   pub is_ends : IsEnds (2 * first.log_blocks) ends
@@ -54,7 +56,7 @@ pub record IsReadFrom (size : ℕ) (image : ℕ → List ℕ) (s : Stopped) : Ty
 -- the device shows an image that replays as the tree, and this was read of it
 pub record IsReplayOf (d : State) (t : Tape) (tree : Tree) (s : Stopped) : Type 0 where
   pub shows : Shows d t
-  pub replays : ReplaysAs (now t) tree
+  pub replays : ReplaysAs d.size (now t) tree
   pub read : IsReadFrom d.size (now t) s
 
 -- a crash leaves an empty log, this superblock, and sectors of its volume that read as the tree

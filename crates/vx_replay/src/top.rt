@@ -28,11 +28,11 @@ pub enum Recovered {
 /// for a write fault comes before anything is written.
 pub fn replay<D: BlockDev>(alloc: Global, dev: &mut D) -> Result<Recovered, ReplayRefusal>
     // From the first barrier on every image that a crash leaves replays as the tree as which the image replayed before.
-    ensures kept { (t : Tape) (tree : Tree) → Shows (D.state dev.old) t → ReplaysAs (now t) tree → Told (D.state dev.new) (Always (length t.ops + 1) (λ _ image. ReplaysAs image tree)) }
+    ensures kept { (t : Tape) (tree : Tree) → Shows (D.state dev.old) t → ReplaysAs (D.state dev.old).size (now t) tree → Told (D.state dev.new) (Always (length t.ops + 1) (λ _ image. ReplaysAs (D.state dev.old).size image tree)) }
     // After a replay there is one image, it is clean, and it reads as that tree.
-    ensures left { (t : Tape) (tree : Tree) (records sectors : ℕ) → Shows (D.state dev.old) t → ReplaysAs (now t) tree → result ≡ Ok (Recovered.Replayed records sectors) → Told (D.state dev.new) (IsLeft tree) }
+    ensures left { (t : Tape) (tree : Tree) (records sectors : ℕ) → Shows (D.state dev.old) t → ReplaysAs (D.state dev.old).size (now t) tree → result ≡ Ok (Recovered.Replayed records sectors) → Told (D.state dev.new) (IsLeft (D.state dev.old).size tree) }
     ensures counted { (t : Tape) (records sectors : ℕ) → Shows (D.state dev.old) t → result ≡ Ok (Recovered.Replayed records sectors) → IsCounted (D.state dev.old).size (now t) records sectors }
-    ensures clean { (t : Tape) (tree : Tree) → Shows (D.state dev.old) t → ReplaysAs (now t) tree → result ≡ Ok Recovered.Clean → IsClean (now t) tree }
+    ensures clean { (t : Tape) (tree : Tree) → Shows (D.state dev.old) t → ReplaysAs (D.state dev.old).size (now t) tree → result ≡ Ok Recovered.Clean → IsClean (D.state dev.old).size (now t) tree }
     ensures settled { (t : Tape) → Shows (D.state dev.old) t → result ≡ Ok Recovered.Clean → IsSettled (D.state dev.old).size (now t) }
     ensures unwritten { result ≡ Ok Recovered.Clean → IsRead (D.state dev.old) (D.state dev.new) }
     ensures bad_super { (t : Tape) (field : ℕ) → Shows (D.state dev.old) t → result ≡ Err (ReplayRefusal.BadSuper field) → IsBadSuper (D.state dev.old).size (now t) field }

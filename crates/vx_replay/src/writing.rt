@@ -2,7 +2,8 @@
 ghost use Rattle.std.specs.Prelude.{◌≡◌, ◌+◌, ◌<◌, ◌≤◌, ℕ, OnOk, length};
 ghost use Rattle.vx_base.specs.Faults.{HasCause};
 ghost use Rattle.vx_dev.specs.Tape.{Tape};
-ghost use Rattle.vx_layout.specs.Supers.{IsSuper};
+ghost use Rattle.vx_layout.specs.Places.{sectors_of};
+ghost use Rattle.vx_layout.specs.Supers.{IsSuper, volume_of};
 ghost use Rattle.vx_log.specs.Moments.{Told, Always, Passed};
 ghost use Rattle.vx_model.specs.Replays.{ReplaysAs, IsLeft};
 ghost use Rattle.vx_model.specs.Tree.{Tree};
@@ -21,9 +22,9 @@ use vx_model::reads::reads_alike;
 pub fn carry<D: BlockDev>(dev: &mut D, stopped: &mut Stopped) -> Result<(), DevFault>
     requires { CanCarry (D.state dev.old).size stopped.old }
     // From the first barrier on every image that a crash leaves replays as the tree.
-    ensures kept { (t : Tape) (tree : Tree) → IsReplayOf (D.state dev.old) t tree stopped.old → Told (D.state dev.new) (Always (length t.ops + 1) (λ _ image. ReplaysAs image tree)) }
+    ensures kept { (t : Tape) (tree : Tree) → IsReplayOf (D.state dev.old) t tree stopped.old → Told (D.state dev.new) (Always (length t.ops + 1) (λ _ image. ReplaysAs (D.state dev.old).size image tree)) }
     // At the end there is one image, it is clean, and it reads as the tree.
-    ensures left { (t : Tape) (tree : Tree) → IsReplayOf (D.state dev.old) t tree stopped.old → OnOk result (Told (D.state dev.new) (IsLeft tree)) }
+    ensures left { (t : Tape) (tree : Tree) → IsReplayOf (D.state dev.old) t tree stopped.old → OnOk result (Told (D.state dev.new) (IsLeft (D.state dev.old).size tree)) }
     ensures size { (D.state dev.new).size ≡ (D.state dev.old).size }
     ensures later { (D.state dev.old).count ≤ (D.state dev.new).count }
     ensures reads { (D.state dev.new).read_faults ≡ (D.state dev.old).read_faults }
@@ -36,7 +37,7 @@ pub fn carry<D: BlockDev>(dev: &mut D, stopped: &mut Stopped) -> Result<(), DevF
 /// Writes home what the log holds, and moves its tail to its head.
 fn empty_log<D: BlockDev>(dev: &mut D, stopped: &mut Stopped) -> Result<(), DevFault>
     requires { CanCarry (D.state dev.old).size stopped.old }
-    ensures kept { (t : Tape) (tree : Tree) → IsReplayOf (D.state dev.old) t tree stopped.old → Told (D.state dev.new) (Always (length t.ops + 1) (λ _ image. ReplaysAs image tree)) }
+    ensures kept { (t : Tape) (tree : Tree) → IsReplayOf (D.state dev.old) t tree stopped.old → Told (D.state dev.new) (Always (length t.ops + 1) (λ _ image. ReplaysAs (D.state dev.old).size image tree)) }
     ensures emptied { (t : Tape) (tree : Tree) → IsReplayOf (D.state dev.old) t tree stopped.old → OnOk result (Told (D.state dev.new) (IsEmptied stopped.old.superblock tree)) }
     ensures superblock { stopped.new.superblock ≡ stopped.old.superblock }
     ensures size { (D.state dev.new).size ≡ (D.state dev.old).size }
@@ -58,9 +59,9 @@ fn empty_log<D: BlockDev>(dev: &mut D, stopped: &mut Stopped) -> Result<(), DevF
 /// Writes the superblock of an image that was left clean.
 fn mark_clean<D: BlockDev>(dev: &mut D, superblock: &Super) -> Result<(), DevFault>
     requires is { IsSuper superblock.now }
-    requires size { 0 < (D.state dev.old).size }
-    ensures passed { (tree : Tree) → Told (D.state dev.old) (IsEmptied superblock.now tree) → Passed (λ image. ReplaysAs image tree) (D.state dev.old) (D.state dev.new) }
-    ensures left { (tree : Tree) → Told (D.state dev.old) (IsEmptied superblock.now tree) → OnOk result (Told (D.state dev.new) (IsLeft tree)) }
+    requires room { sectors_of (volume_of superblock.now) ≤ (D.state dev.old).size }
+    ensures passed { (tree : Tree) → Told (D.state dev.old) (IsEmptied superblock.now tree) → Passed (λ image. ReplaysAs (D.state dev.old).size image tree) (D.state dev.old) (D.state dev.new) }
+    ensures left { (tree : Tree) → Told (D.state dev.old) (IsEmptied superblock.now tree) → OnOk result (Told (D.state dev.new) (IsLeft (D.state dev.old).size tree)) }
     ensures size { (D.state dev.new).size ≡ (D.state dev.old).size }
     ensures later { (D.state dev.old).count ≤ (D.state dev.new).count }
     ensures reads { (D.state dev.new).read_faults ≡ (D.state dev.old).read_faults }

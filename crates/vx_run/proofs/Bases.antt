@@ -21,9 +21,10 @@ use Rattle.vx_run.proofs.Crashing.{live_on, early_released, way_released, placed
 use Rattle.vx_run.proofs.Ending.{none_is_not}
 use Rattle.vx_run.proofs.Histories.{run_released, run_on}
 use Rattle.vx_run.proofs.Releasing.{pending_released, all_free}
+use Rattle.vx_run.specs.declared.engine.Opened.{Opened}
 
 module _ (laws : AllowedLaws) (edits : EditLaws) (d d2 : Device) (core new : Core) (s : State) (base : IsBase d core s) (onward : Onward d d2) (opened : new.opened ≡ core.opened)
-    (begins : IfSome d.told (λ t. length t.ops ≡ d.count)) (ends : IfSome d2.told (λ t. length t.ops ≡ d2.count)) (passed : Passed (λ image. ReplaysAs image s.tree) d d2)
+    (begins : IfSome d.told (λ t. length t.ops ≡ d.count)) (ends : IfSome d2.told (λ t. length t.ops ≡ d2.count)) (passed : Passed (λ image. ReplaysAs s.layout.device_sectors image s.tree) d d2)
     (head : new.journal.log.head ≡ core.journal.log.head) where
   abbrev h : List Event
   h = core.history.items
@@ -38,12 +39,12 @@ module _ (laws : AllowedLaws) (edits : EditLaws) (d d2 : Device) (core new : Cor
       let size : length new.history.items ≡ length longer = ap (λ (es : List Event). length es) items in
       let live = live_on core.opened d.count d2.count h longer
       (λ m image soon. early_released laws core.opened h s d.count at upto low base.run.state_is base.placed base.come m image)
-      (λ image. ReplaysAs image s.tree)
+      (λ image. ReplaysAs s.layout.device_sectors image s.tree)
       (λ m image from soon r. way_released laws core.opened h s d.count at upto low base.run.state_is base.placed base.come m image from r)
       s (with_released s upto) d.told d2.told passed.ops new.disabled core.disabled core.journal.log new.journal.log core.journal.homes new.journal.homes begins ends base.live passed.told passed.always (λ _. kept)
       (λ some image r le. absurd (none_is_not new.disabled none some)) in
       record {
-        run = subst (λ (o : ℕ). IsRun o new.history.items (with_released s upto) d2.count) (sym opened)
+        run = subst (λ (o : Opened). IsRun o new.history.items (with_released s upto) d2.count) (sym opened)
             (subst (λ (es : List Event). IsRun core.opened es (with_released s upto) d2.count) (sym items) (run_released core.opened h s at upto d.count d2.count base.run low (omega (arith, is))));
         size = omega (arith, base.size, onward.size);
         rest = λ _. rest;
@@ -53,20 +54,20 @@ module _ (laws : AllowedLaws) (edits : EditLaws) (d d2 : Device) (core new : Cor
             (come_released laws core.opened h s d.count at upto low base.run.state_is base.placed base.come m (omega (arith, is, from)));
         placed = subst (λ (es : List Event). All (IsPlaced (length es)) es) (sym items) (placed_released laws core.opened h s d.count at upto low base.run.state_is base.placed base.come);
         pending = λ b q waits. let before = base.pending b q (pending_released (Some at) upto s b q waits) in omega (arith, before, size, long);
-        live = subst (λ (o : ℕ). Told d2 (IsLive o new.history.items new.disabled new.journal.log new.journal.homes (with_released s upto))) (sym opened)
+        live = subst (λ (o : Opened). Told d2 (IsLive o new.history.items new.disabled new.journal.log new.journal.homes (with_released s upto))) (sym opened)
             (subst (λ (es : List Event). Told d2 (IsLive core.opened es new.disabled new.journal.log new.journal.homes (with_released s upto))) (sym items) live);
       }
 
   -- the emptying failed
   pub base_stopped : new.history.items ≡ h → IsSome new.disabled → IsBase d2 new s
   base_stopped items some =
-      let live = live_on core.opened d.count d2.count h h (λ m image soon is. is) (λ image. ReplaysAs image s.tree)
+      let live = live_on core.opened d.count d2.count h h (λ m image soon is. is) (λ image. ReplaysAs s.layout.device_sectors image s.tree)
       (λ m image from soon r. at_end laws core.opened h s d.count base.run.state_is base.placed base.come m image from r)
       s s d.told d2.told passed.ops new.disabled core.disabled core.journal.log new.journal.log core.journal.homes new.journal.homes begins ends base.live passed.told passed.always
       (λ none. absurd (none_is_not new.disabled none some))
       (λ _ image r le. at_end laws core.opened h s d.count base.run.state_is base.placed base.come d2.count image le r) in
       record {
-        run = subst (λ (o : ℕ). IsRun o new.history.items s d2.count) (sym opened)
+        run = subst (λ (o : Opened). IsRun o new.history.items s d2.count) (sym opened)
             (subst (λ (es : List Event). IsRun core.opened es s d2.count) (sym items) (run_on core.opened h s d.count d2.count base.run onward.later));
         size = omega (arith, base.size, onward.size);
         rest = λ none. absurd (none_is_not new.disabled none some);
@@ -75,7 +76,7 @@ module _ (laws : AllowedLaws) (edits : EditLaws) (d d2 : Device) (core new : Cor
         come = λ m from. subst (λ (es : List Event). come_by es m ≡ length es) (sym items) (base.come m (omega (arith, onward.later, from)));
         placed = subst (λ (es : List Event). All (IsPlaced (length es)) es) (sym items) base.placed;
         pending = λ b q waits. let before = base.pending b q waits in omega (arith, before, ap (λ (es : List Event). length es) items);
-        live = subst (λ (o : ℕ). Told d2 (IsLive o new.history.items new.disabled new.journal.log new.journal.homes s)) (sym opened)
+        live = subst (λ (o : Opened). Told d2 (IsLive o new.history.items new.disabled new.journal.log new.journal.homes s)) (sym opened)
             (subst (λ (es : List Event). Told d2 (IsLive core.opened es new.disabled new.journal.log new.journal.homes s)) (sym items) live);
       }
 
@@ -87,5 +88,5 @@ free_now d core new s at upto base opened all items b =
     let e : Event = event.Release at upto in
     let state : (after_all (beginning core.opened) (core.history.items ++ e ∷ [])).state ≡ with_released s upto =
     ap (λ (x : World). x.state) (after_all-append (beginning core.opened) core.history.items (e ∷ [])) ∙ ap (λ (x : State). with_released x upto) base.run.state_is in
-    ap (λ (o : ℕ). (after_all (beginning o) new.history.items).state.layout.pending b) opened ∙ ap (λ (es : List Event). (after_all (beginning core.opened) es).state.layout.pending b) items
+    ap (λ (o : Opened). (after_all (beginning o) new.history.items).state.layout.pending b) opened ∙ ap (λ (es : List Event). (after_all (beginning core.opened) es).state.layout.pending b) items
     ∙ ap (λ (x : State). x.layout.pending b) state ∙ all_free upto s (λ k q waits. let before = base.pending k q waits in omega (arith, before, all)) b

@@ -54,13 +54,13 @@ change_of edits waiting s new place t batch (Some at) first last touched waits r
     }
 
 -- from the state before to the one after, over the emptying of the log
-pub passed_both : (s new : State) (place : ℕ) (released : Option ℕ) (a b d : Device) → Passed (λ image. ReplaysAs image s.tree) a b
-    → Passed (λ image. ReplaysAs image (released_by released place s).tree ⊎ ReplaysAs image (released_by released place new).tree) b d
-    → Passed (λ image. ReplaysAs image s.tree ⊎ ReplaysAs image new.tree) a d
-passed_both s new place None a b d first second = passed_join (λ image. ReplaysAs image s.tree ⊎ ReplaysAs image new.tree) a b d
-    (passed_weaker (λ image. ReplaysAs image s.tree) (λ image. ReplaysAs image s.tree ⊎ ReplaysAs image new.tree) a b (λ image h. inl h) first) second
-passed_both s new place (Some at) a b d first second = passed_join (λ image. ReplaysAs image s.tree ⊎ ReplaysAs image new.tree) a b d
-    (passed_weaker (λ image. ReplaysAs image s.tree) (λ image. ReplaysAs image s.tree ⊎ ReplaysAs image new.tree) a b (λ image h. inl h) first) second
+pub passed_both : (s new : State) (place : ℕ) (released : Option ℕ) (a b d : Device) → Passed (λ image. ReplaysAs s.layout.device_sectors image s.tree) a b
+    → Passed (λ image. ReplaysAs (released_by released place s).layout.device_sectors image (released_by released place s).tree ⊎ ReplaysAs (released_by released place new).layout.device_sectors image (released_by released place new).tree) b d
+    → Passed (λ image. ReplaysAs s.layout.device_sectors image s.tree ⊎ ReplaysAs new.layout.device_sectors image new.tree) a d
+passed_both s new place None a b d first second = passed_join (λ image. ReplaysAs s.layout.device_sectors image s.tree ⊎ ReplaysAs new.layout.device_sectors image new.tree) a b d
+    (passed_weaker (λ image. ReplaysAs s.layout.device_sectors image s.tree) (λ image. ReplaysAs s.layout.device_sectors image s.tree ⊎ ReplaysAs new.layout.device_sectors image new.tree) a b (λ image h. inl h) first) second
+passed_both s new place (Some at) a b d first second = passed_join (λ image. ReplaysAs s.layout.device_sectors image s.tree ⊎ ReplaysAs new.layout.device_sectors image new.tree) a b d
+    (passed_weaker (λ image. ReplaysAs s.layout.device_sectors image s.tree) (λ image. ReplaysAs s.layout.device_sectors image s.tree ⊎ ReplaysAs new.layout.device_sectors image new.tree) a b (λ image h. inl h) first) second
 
 pub kept_as : (d : Device) (log log2 : LogView) (homes homes2 : List AfterImage) (s : State) → log2 ≡ log → homes2 ≡ homes → Told d (IsKept log homes s) → Told d (IsKept log2 homes2 s)
 kept_as d log log2 homes homes2 s first second kept =

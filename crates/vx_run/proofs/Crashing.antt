@@ -23,6 +23,7 @@ use Rattle.vx_model.proofs.Runs.{after_all-append}
 use Rattle.vx_run.specs.Cores.{beginning, IsLive, IsBetween, releases}
 use Rattle.vx_kernel.specs.Journals.{IsKept}
 use Rattle.vx_run.proofs.Ending.{none_is_not}
+use Rattle.vx_run.specs.declared.engine.Opened.{Opened}
 
 -- ---- moments of a longer tape
 
@@ -46,17 +47,17 @@ always_now first P t past present m from le image is = elim (cases_lt m (length 
 ]
 
 -- the log and the homes stand for the state, where no write has failed
-pub kept_live : (opened : ℕ) (h : List Event) (s : State) (o : Option Tape) (disabled : Option ℕ) (log : LogView) (homes : List AfterImage) → disabled ≡ None → IfSome o (IsLive opened h disabled log homes s)
+pub kept_live : (opened : Opened) (h : List Event) (s : State) (o : Option Tape) (disabled : Option ℕ) (log : LogView) (homes : List AfterImage) → disabled ≡ None → IfSome o (IsLive opened h disabled log homes s)
     → IfSome o (IsKept log homes s)
 kept_live opened h s None disabled log homes none live = tt
 kept_live opened h s (Some t) disabled log homes none live = live.kept none
 
 -- ---- from one history to a longer one
 
-module _ (opened start end : ℕ) (h longer : List Event) (early : (m : ℕ) (image : ℕ → List ℕ) → m < start → IsAllowed (beginning opened) h m image → IsAllowed (beginning opened) longer m image) where
+module _ (opened : Opened) (start end : ℕ) (h longer : List Event) (early : (m : ℕ) (image : ℕ → List ℕ) → m < start → IsAllowed (beginning opened) h m image → IsAllowed (beginning opened) longer m image) where
   past_on : (Q : (ℕ → List ℕ) → Type 0) → ((m : ℕ) (image : ℕ → List ℕ) → start ≤ m → m < end → Q image → IsAllowed (beginning opened) longer m image)
-      → (t : Tape) (ops : List Operation) → length t.ops ≡ start → length (did_all ops t).ops ≡ end → Past (opened + 70) (IsAllowed (beginning opened) h) t
-      → Always (length t.ops) (λ _ image. Q image) (did_all ops t) → Past (opened + 70) (IsAllowed (beginning opened) longer) (did_all ops t)
+      → (t : Tape) (ops : List Operation) → length t.ops ≡ start → length (did_all ops t).ops ≡ end → Past (opened.operations + 70) (IsAllowed (beginning opened) h) t
+      → Always (length t.ops) (λ _ image. Q image) (did_all ops t) → Past (opened.operations + 70) (IsAllowed (beginning opened) longer) (did_all ops t)
   past_on Q way t ops begins ends past always m from lt image is = elim (cases_lt m (length t.ops)) [
     | inl soon ↦ early m image (omega (arith, soon, begins)) (past m from soon image (subst (λ (u : Tape). IsImage u image) (upto-front m ops t (omega (arith, soon))) is))
     | inr on ↦ way m image (omega (arith, begins, on)) (omega (arith, lt, ends)) (always m on (omega (arith, lt)) image is)
@@ -96,19 +97,19 @@ module _ (opened start end : ℕ) (h longer : List Event) (early : (m : ℕ) (im
 -- ---- events behind a history
 
 -- what a crash may leave stays allowed, where no event behind the history has answered by then
-pub stays : (laws : AllowedLaws) (opened : ℕ) (h events longer : List Event) (m : ℕ) (image : ℕ → List ℕ) → All (IsPlaced (length h)) h → h ++ events ≡ longer → AllByRecursion (IsQuiet m) events
+pub stays : (laws : AllowedLaws) (opened : Opened) (h events longer : List Event) (m : ℕ) (image : ℕ → List ℕ) → All (IsPlaced (length h)) h → h ++ events ≡ longer → AllByRecursion (IsQuiet m) events
     → IsAllowed (beginning opened) h m image → IsAllowed (beginning opened) longer m image
 stays laws opened h events longer m image placed whole quiet is = subst (λ (es : List Event). IsAllowed (beginning opened) es m image) whole (laws.later (beginning opened) h events m image placed quiet is)
 
 -- an image replays as the tree after the history
-pub replays : (laws : AllowedLaws) (opened : ℕ) (h events longer : List Event) (s : State) (m : ℕ) (image : ℕ → List ℕ) → All (IsPlaced (length h)) h → h ++ events ≡ longer → AllByRecursion (IsQuiet m) events
-    → come_by h m ≡ length h → (after_all (beginning opened) h).state.tree ≡ s.tree → ReplaysAs image s.tree → IsAllowed (beginning opened) longer m image
+pub replays : (laws : AllowedLaws) (opened : Opened) (h events longer : List Event) (s : State) (m : ℕ) (image : ℕ → List ℕ) → All (IsPlaced (length h)) h → h ++ events ≡ longer → AllByRecursion (IsQuiet m) events
+    → come_by h m ≡ length h → (after_all (beginning opened) h).state.tree ≡ s.tree → ReplaysAs s.layout.device_sectors image s.tree → IsAllowed (beginning opened) longer m image
 replays laws opened h events longer s m image placed whole quiet came same is = subst (λ (es : List Event). IsAllowed (beginning opened) es m image) whole
     (laws.front (beginning opened) h events m image s.tree placed quiet (omega (arith, came)) (sym same) is)
 
 -- ---- a call and its answer
 
-module _ (laws : AllowedLaws) (opened : ℕ) (h : List Event) (at later place line upto : ℕ) (call : Call) (reply answer : Reply) (between : Option ℕ)
+module _ (laws : AllowedLaws) (opened : Opened) (h : List Event) (at later place line upto : ℕ) (call : Call) (reply answer : Reply) (between : Option ℕ)
     (order : at ≤ later) (inside : IsBetween between at later) (placed : All (IsPlaced (length h)) h) (came : (m : ℕ) → at ≤ m → come_by h m ≡ length h) where
   abbrev first : Event
   first = event.Do at 0 line call reply
@@ -157,7 +158,7 @@ module _ (laws : AllowedLaws) (opened : ℕ) (h : List Event) (at later place li
 
   -- on the way from the one state to the other
   pub way_answered : (s new : State) → (after_all (beginning opened) h).state ≡ s → (after_all (beginning opened) (h ++ first ∷ [])).state ≡ new
-      → (m : ℕ) (image : ℕ → List ℕ) → at ≤ m → IsUnanswered m → ReplaysAs image s.tree ⊎ ReplaysAs image new.tree → IsAllowed (beginning opened) longer m image
+      → (m : ℕ) (image : ℕ → List ℕ) → at ≤ m → IsUnanswered m → ReplaysAs s.layout.device_sectors image s.tree ⊎ ReplaysAs new.layout.device_sectors image new.tree → IsAllowed (beginning opened) longer m image
   way_answered s new was is m image from open' (inl r) =
       replays laws opened h (first ∷ rest) longer s m image placed whole (tt, quiet m open') (came m from) (ap (λ (x : State). x.tree) was) r
   way_answered s new was is m image from open' (inr r) =
@@ -175,12 +176,12 @@ module _ (laws : AllowedLaws) (opened : ℕ) (h : List Event) (at later place li
 
 -- ---- blocks that wait are released, between two calls
 
-module _ (laws : AllowedLaws) (opened : ℕ) (h : List Event) (s : State) (start at upto : ℕ) (low : start ≤ at) (state_is : (after_all (beginning opened) h).state ≡ s)
+module _ (laws : AllowedLaws) (opened : Opened) (h : List Event) (s : State) (start at upto : ℕ) (low : start ≤ at) (state_is : (after_all (beginning opened) h).state ≡ s)
     (placed : All (IsPlaced (length h)) h) (came : (m : ℕ) → start ≤ m → come_by h m ≡ length h) where
   pub early_released : (m : ℕ) (image : ℕ → List ℕ) → IsAllowed (beginning opened) h m image → IsAllowed (beginning opened) (h ++ event.Release at upto ∷ []) m image
   early_released m image is = laws.later (beginning opened) h (event.Release at upto ∷ []) m image placed (tt, tt) is
 
-  pub way_released : (m : ℕ) (image : ℕ → List ℕ) → start ≤ m → ReplaysAs image s.tree → IsAllowed (beginning opened) (h ++ event.Release at upto ∷ []) m image
+  pub way_released : (m : ℕ) (image : ℕ → List ℕ) → start ≤ m → ReplaysAs s.layout.device_sectors image s.tree → IsAllowed (beginning opened) (h ++ event.Release at upto ∷ []) m image
   way_released m image from is =
       laws.front (beginning opened) h (event.Release at upto ∷ []) m image s.tree placed (tt, tt) (omega (arith, came m from)) (ap (λ (x : State). x.tree) (sym state_is)) is
 
@@ -192,44 +193,44 @@ module _ (laws : AllowedLaws) (opened : ℕ) (h : List Event) (s : State) (start
 
 -- ---- the end of the history
 
-module _ (laws : AllowedLaws) (opened : ℕ) (h : List Event) (s : State) (start : ℕ) (state_is : (after_all (beginning opened) h).state ≡ s)
+module _ (laws : AllowedLaws) (opened : Opened) (h : List Event) (s : State) (start : ℕ) (state_is : (after_all (beginning opened) h).state ≡ s)
     (placed : All (IsPlaced (length h)) h) (came : (m : ℕ) → start ≤ m → come_by h m ≡ length h) where
   -- an image that replays as the last tree
-  pub at_end : (m : ℕ) (image : ℕ → List ℕ) → start ≤ m → ReplaysAs image s.tree → IsAllowed (beginning opened) h m image
+  pub at_end : (m : ℕ) (image : ℕ → List ℕ) → start ≤ m → ReplaysAs s.layout.device_sectors image s.tree → IsAllowed (beginning opened) h m image
   at_end m image from is = replays laws opened h [] h s m image placed (append-nil h) tt (came m from) (ap (λ (x : State). x.tree) state_is) is
 
-  always_failed : (t : Tape) (ops : List Operation) → length t.ops ≡ start → Past (opened + 70) (IsAllowed (beginning opened) h) t
-      → Always (length t.ops) (λ _ image. ReplaysAs image s.tree) (did_all ops t) → Always (opened + 70) (IsAllowed (beginning opened) h) (did_all ops t)
+  always_failed : (t : Tape) (ops : List Operation) → length t.ops ≡ start → Past (opened.operations + 70) (IsAllowed (beginning opened) h) t
+      → Always (length t.ops) (λ _ image. ReplaysAs s.layout.device_sectors image s.tree) (did_all ops t) → Always (opened.operations + 70) (IsAllowed (beginning opened) h) (did_all ops t)
   always_failed t ops begins past always m from le image is = elim (cases_lt m (length t.ops)) [
     | inl early ↦ past m from early image (subst (λ (u : Tape). IsImage u image) (upto-front m ops t (omega (arith, early))) is)
     | inr on ↦ at_end m image (omega (arith, begins, on)) (always m on le image is)
   ]
 
   pub told_failed : (o o2 : Option Tape) (ops : List Operation) (disabled : Option ℕ) (log : LogView) (homes : List AfterImage) → IfSome o (λ t. length t.ops ≡ start)
-      → IfSome o (IsLive opened h disabled log homes s) → o2 ≡ option_map (did_all ops) o → IfSome o (λ t. Always (length t.ops) (λ _ image. ReplaysAs image s.tree) (did_all ops t))
-      → IfSome o2 (Always (opened + 70) (IsAllowed (beginning opened) h))
-  told_failed None o2 ops disabled log homes begins live told always = subst (λ (x : Option Tape). IfSome x (Always (opened + 70) (IsAllowed (beginning opened) h))) (sym told) tt
-  told_failed (Some t) o2 ops disabled log homes begins live told always = subst (λ (x : Option Tape). IfSome x (Always (opened + 70) (IsAllowed (beginning opened) h))) (sym told)
+      → IfSome o (IsLive opened h disabled log homes s) → o2 ≡ option_map (did_all ops) o → IfSome o (λ t. Always (length t.ops) (λ _ image. ReplaysAs s.layout.device_sectors image s.tree) (did_all ops t))
+      → IfSome o2 (Always (opened.operations + 70) (IsAllowed (beginning opened) h))
+  told_failed None o2 ops disabled log homes begins live told always = subst (λ (x : Option Tape). IfSome x (Always (opened.operations + 70) (IsAllowed (beginning opened) h))) (sym told) tt
+  told_failed (Some t) o2 ops disabled log homes begins live told always = subst (λ (x : Option Tape). IfSome x (Always (opened.operations + 70) (IsAllowed (beginning opened) h))) (sym told)
       (always_failed t ops begins live.past always)
 
   -- nothing is done where a write has failed before
   pub told_stopped : (o : Option Tape) (disabled : Option ℕ) (log : LogView) (homes : List AfterImage) → IsSome disabled → IfSome o (IsLive opened h disabled log homes s)
-      → IfSome o (Always (opened + 70) (IsAllowed (beginning opened) h))
+      → IfSome o (Always (opened.operations + 70) (IsAllowed (beginning opened) h))
   told_stopped None disabled log homes some live = tt
-  told_stopped (Some t) disabled log homes some live = always_now (opened + 70) (IsAllowed (beginning opened) h) t live.past (live.stopped some)
+  told_stopped (Some t) disabled log homes some live = always_now (opened.operations + 70) (IsAllowed (beginning opened) h) t live.past (live.stopped some)
 
   pub state_unmounted : (at : ℕ) → (after_all (beginning opened) (h ++ event.Unmounted at ∷ [])).state ≡ s
   state_unmounted at = ap (λ (w : World). w.state) (after_all-append (beginning opened) h (event.Unmounted at ∷ [])) ∙ state_is
 
   -- the unmounting is durable
-  at_unmounted : (at m : ℕ) (image : ℕ → List ℕ) → start ≤ at → at ≤ m → ReplaysAs image s.tree → IsAllowed (beginning opened) (h ++ event.Unmounted at ∷ []) m image
+  at_unmounted : (at m : ℕ) (image : ℕ → List ℕ) → start ≤ at → at ≤ m → ReplaysAs s.layout.device_sectors image s.tree → IsAllowed (beginning opened) (h ++ event.Unmounted at ∷ []) m image
   at_unmounted at m image order from is =
       let longer = h ++ event.Unmounted at ∷ [] in
       let come : come_by longer m ≡ length longer = laws.come h (event.Unmounted at ∷ []) m (from, tt) ∙ omega (arith, came m (omega (arith, order, from)), length-append h (event.Unmounted at ∷ [])) in
       replays laws opened longer [] longer s m image (laws.placed h (event.Unmounted at ∷ []) placed (tt, tt)) (append-nil longer) tt come (ap (λ (x : State). x.tree) (state_unmounted at)) is
 
-  always_unmounted : (at : ℕ) (t : Tape) (ops : List Operation) → length t.ops ≡ start → length (did_all ops t).ops ≡ at → Past (opened + 70) (IsAllowed (beginning opened) h) t
-      → Always (length t.ops) (λ _ image. ReplaysAs image s.tree) (did_all ops t) → Always (opened + 70) (IsAllowed (beginning opened) (h ++ event.Unmounted at ∷ [])) (did_all ops t)
+  always_unmounted : (at : ℕ) (t : Tape) (ops : List Operation) → length t.ops ≡ start → length (did_all ops t).ops ≡ at → Past (opened.operations + 70) (IsAllowed (beginning opened) h) t
+      → Always (length t.ops) (λ _ image. ReplaysAs s.layout.device_sectors image s.tree) (did_all ops t) → Always (opened.operations + 70) (IsAllowed (beginning opened) (h ++ event.Unmounted at ∷ [])) (did_all ops t)
   always_unmounted at t ops begins ends past always m from le image is = elim (cases_lt m (length t.ops)) [
     | inl early ↦ laws.later (beginning opened) h (event.Unmounted at ∷ []) m image placed (omega (arith, early, ends, length-append t.ops ops), tt)
         (past m from early image (subst (λ (u : Tape). IsImage u image) (upto-front m ops t (omega (arith, early))) is))
@@ -242,19 +243,19 @@ module _ (laws : AllowedLaws) (opened : ℕ) (h : List Event) (s : State) (start
 
   pub told_unmounted : (at : ℕ) (o o2 : Option Tape) (ops : List Operation) (disabled : Option ℕ) (log : LogView) (homes : List AfterImage) → IfSome o (λ t. length t.ops ≡ start)
       → IfSome o2 (λ t. length t.ops ≡ at) → IfSome o (IsLive opened h disabled log homes s) → o2 ≡ option_map (did_all ops) o
-      → IfSome o (λ t. Always (length t.ops) (λ _ image. ReplaysAs image s.tree) (did_all ops t))
-      → IfSome o2 (Always (opened + 70) (IsAllowed (beginning opened) (h ++ event.Unmounted at ∷ [])))
+      → IfSome o (λ t. Always (length t.ops) (λ _ image. ReplaysAs s.layout.device_sectors image s.tree) (did_all ops t))
+      → IfSome o2 (Always (opened.operations + 70) (IsAllowed (beginning opened) (h ++ event.Unmounted at ∷ [])))
   told_unmounted at None o2 ops disabled log homes begins ends live told always =
-      subst (λ (x : Option Tape). IfSome x (Always (opened + 70) (IsAllowed (beginning opened) (h ++ event.Unmounted at ∷ [])))) (sym told) tt
+      subst (λ (x : Option Tape). IfSome x (Always (opened.operations + 70) (IsAllowed (beginning opened) (h ++ event.Unmounted at ∷ [])))) (sym told) tt
   told_unmounted at (Some t) o2 ops disabled log homes begins ends live told always =
       let stop : length (did_all ops t).ops ≡ at = subst (λ (x : Option Tape). IfSome x (λ u. length u.ops ≡ at)) told ends in
-      subst (λ (x : Option Tape). IfSome x (Always (opened + 70) (IsAllowed (beginning opened) (h ++ event.Unmounted at ∷ [])))) (sym told) (always_unmounted at t ops begins stop live.past always)
+      subst (λ (x : Option Tape). IfSome x (Always (opened.operations + 70) (IsAllowed (beginning opened) (h ++ event.Unmounted at ∷ [])))) (sym told) (always_unmounted at t ops begins stop live.past always)
 
 -- ---- the start of the history
 
 -- nothing is claimed before the end of the format
-pub live_formatted : (opened : ℕ) (h : List Event) (s : State) (o : Option Tape) (disabled : Option ℕ) (log : LogView) (homes : List AfterImage) → disabled ≡ None
-    → IfSome o (λ t. length t.ops ≡ opened + 70) → IfSome o (IsKept log homes s) → IfSome o (IsLive opened h disabled log homes s)
+pub live_formatted : (opened : Opened) (h : List Event) (s : State) (o : Option Tape) (disabled : Option ℕ) (log : LogView) (homes : List AfterImage) → disabled ≡ None
+    → IfSome o (λ t. length t.ops ≡ opened.operations + 70) → IfSome o (IsKept log homes s) → IfSome o (IsLive opened h disabled log homes s)
 live_formatted opened h s None disabled log homes none formatted kept = tt
 live_formatted opened h s (Some t) disabled log homes none formatted kept = record {
   past = λ m from lt image is. absurd (omega (arith, from, lt, formatted));

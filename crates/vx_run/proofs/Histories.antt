@@ -17,6 +17,7 @@ use Rattle.vx_model.proofs.Runs.{after_all-append, Legal-push}
 use Rattle.vx_dev.specs.Tape as dev
 use Rattle.vx_kernel.specs.Devices.{Onward}
 use Rattle.vx_run.specs.Cores.{IsRun, IsReply, IsEnded, IsBetween, is_unmounted, IsOfLines, asked_of, numbered, beginning, releases, released_by}
+use Rattle.vx_run.specs.declared.engine.Opened.{Opened}
 
 abbrev Calls : Type 0
 Calls = map.FinMap nat_cmp Waiting
@@ -45,7 +46,7 @@ abbrev called : ℕ → Reply → Waiting
 called line reply = record { session = 0; line = line; reply = reply }
 
 -- a call has been done, and not been answered
-pub record IsOpen (opened : ℕ) (history : List Event) (state : State) (place line : ℕ) (reply : Reply) (count : ℕ) : Type 0 where
+pub record IsOpen (opened : Opened) (history : List Event) (state : State) (place line : ℕ) (reply : Reply) (count : ℕ) : Type 0 where
   pub legal : Legal (beginning opened) history
   pub state_is : (after_all (beginning opened) history).state ≡ state
   pub waiting : (after_all (beginning opened) history).waiting ≡ map.insert map.empty place (called line reply)
@@ -56,7 +57,7 @@ pub record IsOpen (opened : ℕ) (history : List Event) (state : State) (place l
 one_more : (es : List Event) (e : Event) → length (es ++ e ∷ []) ≡ length es + 1
 one_more es e = length-append es (e ∷ [])
 
-pub open_done : (opened : ℕ) (h : List Event) (s new : State) (call : Call) (line at count : ℕ) (reply : Reply) → IsRun opened h s count → count ≤ at → IsReply s (length h) call reply new
+pub open_done : (opened : Opened) (h : List Event) (s new : State) (call : Call) (line at count : ℕ) (reply : Reply) → IsRun opened h s count → count ≤ at → IsReply s (length h) call reply new
     → (is_no_space reply ≡ true → (b : ℕ) → s.layout.pending b ≡ None) → IsOpen opened (h ++ begun at line call reply ∷ []) new (length h) line reply at
 open_done opened h s new call line at count reply run low is released =
     let w = after_all (beginning opened) h in
@@ -81,11 +82,11 @@ open_done opened h s new call line at count reply run low is released =
       mounted = ap (λ (x : World). x.unmounted) first ∙ run.mounted;
     }
 
-open_on : (opened : ℕ) (h : List Event) (s : State) (place line : ℕ) (reply : Reply) (count later : ℕ) → IsOpen opened h s place line reply count → count ≤ later → IsOpen opened h s place line reply later
+open_on : (opened : Opened) (h : List Event) (s : State) (place line : ℕ) (reply : Reply) (count later : ℕ) → IsOpen opened h s place line reply count → count ≤ later → IsOpen opened h s place line reply later
 open_on opened h s place line reply count later run le =
     record { legal = run.legal; state_is = run.state_is; waiting = run.waiting; next = run.next; at = omega (arith, run.at, le); mounted = run.mounted }
 
-open_freed : (opened : ℕ) (h : List Event) (s : State) (place line : ℕ) (reply : Reply) (at upto count later : ℕ) → IsOpen opened h s place line reply count → count ≤ at → at ≤ later
+open_freed : (opened : Opened) (h : List Event) (s : State) (place line : ℕ) (reply : Reply) (at upto count later : ℕ) → IsOpen opened h s place line reply count → count ≤ at → at ≤ later
     → IsOpen opened (h ++ event.Release at upto ∷ []) (with_released s upto) place line reply later
 open_freed opened h s place line reply at upto count later run low high =
     let w = after_all (beginning opened) h in
@@ -100,14 +101,14 @@ open_freed opened h s place line reply at upto count later run low high =
       mounted = ap (λ (x : World). x.unmounted) first ∙ run.mounted;
     }
 
-pub open_released : (opened : ℕ) (h : List Event) (s : State) (place line : ℕ) (reply : Reply) (between : Option ℕ) (upto count later : ℕ) → IsOpen opened h s place line reply count → count ≤ later
+pub open_released : (opened : Opened) (h : List Event) (s : State) (place line : ℕ) (reply : Reply) (between : Option ℕ) (upto count later : ℕ) → IsOpen opened h s place line reply count → count ≤ later
     → IsBetween between count later → IsOpen opened (h ++ releases between upto) (released_by between upto s) place line reply later
 open_released opened h s place line reply None upto count later run le is =
     subst (λ (es : List Event). IsOpen opened es s place line reply later) (sym (append-nil h)) (open_on opened h s place line reply count later run le)
 open_released opened h s place line reply (Some at) upto count later run le is = open_freed opened h s place line reply at upto count later run is.0 is.1
 
 -- the call is answered
-pub run_closed : (opened : ℕ) (h : List Event) (s : State) (place line : ℕ) (reply : Reply) (count later count2 : ℕ) (answer : Reply) → IsOpen opened h s place line reply count → count ≤ later → later ≤ count2
+pub run_closed : (opened : Opened) (h : List Event) (s : State) (place line : ℕ) (reply : Reply) (count later count2 : ℕ) (answer : Reply) → IsOpen opened h s place line reply count → count ≤ later → later ≤ count2
     → (answer ≡ reply) ⊎ (is_fault answer ≡ true) → IsRun opened (h ++ event.Ret later place answer ∷ []) s count2
 run_closed opened h s place line reply count later count2 answer run low high fits =
     let w = after_all (beginning opened) h in
@@ -126,7 +127,7 @@ run_closed opened h s place line reply count later count2 answer run low high fi
     }
 
 -- blocks that waited are free, between two calls
-pub run_released : (opened : ℕ) (h : List Event) (s : State) (at upto count count2 : ℕ) → IsRun opened h s count → count ≤ at → at ≤ count2
+pub run_released : (opened : Opened) (h : List Event) (s : State) (at upto count count2 : ℕ) → IsRun opened h s count → count ≤ at → at ≤ count2
     → IsRun opened (h ++ event.Release at upto ∷ []) (with_released s upto) count2
 run_released opened h s at upto count count2 run low high =
     let w = after_all (beginning opened) h in
@@ -141,7 +142,7 @@ run_released opened h s at upto count count2 run low high =
       mounted = ap (λ (x : World). x.unmounted) first ∙ run.mounted;
     }
 
-pub run_on : (opened : ℕ) (h : List Event) (s : State) (count count2 : ℕ) → IsRun opened h s count → count ≤ count2 → IsRun opened h s count2
+pub run_on : (opened : Opened) (h : List Event) (s : State) (count count2 : ℕ) → IsRun opened h s count → count ≤ count2 → IsRun opened h s count2
 run_on opened h s count count2 run le = record { legal = run.legal; state_is = run.state_is; idle = run.idle; next = run.next; at = omega (arith, run.at, le); mounted = run.mounted }
 
 -- ---- the lines
@@ -199,7 +200,7 @@ module _ (h new : List Event) (earlier : Option ℕ) (at line : ℕ) (call : Cal
 
 -- ---- the file system is left clean behind the last call
 
-module _ (opened : ℕ) (h new : List Event) (s : State) (at count : ℕ) (run : IsRun opened h s count) (low : count ≤ at) (are : new ≡ h ++ event.Unmounted at ∷ []) where
+module _ (opened : Opened) (h new : List Event) (s : State) (at count : ℕ) (run : IsRun opened h s count) (low : count ≤ at) (are : new ≡ h ++ event.Unmounted at ∷ []) where
   last_world : after_all (beginning opened) new ≡ after (after_all (beginning opened) h) (event.Unmounted at)
   last_world = ap (after_all (beginning opened)) are ∙ after_all-append (beginning opened) h (event.Unmounted at ∷ [])
 

@@ -25,6 +25,7 @@ use Rattle.vx_run.proofs.Crashing.{kept_live, live_on, live_still, longer, early
 use Rattle.vx_run.proofs.Ending.{none_is_not}
 use Rattle.vx_run.proofs.Histories.{IsOpen, open_done, open_released, run_closed}
 use Rattle.vx_run.proofs.Releasing.{pending_waits}
+use Rattle.vx_run.specs.declared.engine.Opened.{Opened}
 
 decided : (inodes directories units : List ℕ) → let t : Touched = record { inodes = inodes; directories = directories; units = units } in (t ≡ untouched) ⊎ (t ≢ untouched)
 decided [] [] [] = inl refl
@@ -47,7 +48,7 @@ mounted_by edits None upto s is = is
 mounted_by edits (Some at) upto s is = mounted_released edits s upto is
 
 -- what is known once the change is durable
-pub record IsNoted (d2 : Device) (opened : ℕ) (h : List Event) (at later place line : ℕ) (call : Call) (reply answer : Reply) (new : State) (begun after : Core) : Type 0 where
+pub record IsNoted (d2 : Device) (opened : Opened) (h : List Event) (at later place line : ℕ) (call : Call) (reply answer : Reply) (new : State) (begun after : Core) : Type 0 where
   pub between : Option ℕ
   pub inside : IsBetween between at later
   pub history : after.history.items ≡ begun.history.items ++ releases between place
@@ -119,7 +120,7 @@ module _ (laws : AllowedLaws) (edits : EditLaws) (waiting : WaitingLaws) (d d2 :
     noted_carried is =
         let inside : IsBetween is.released at later = between_at is.released d.count d2.count at later at_is later_is is.between in
         let es = longer laws core.opened h at later place line place call reply answer is.released order inside asked.base.placed came in
-        let way : (m : ℕ) (image : ℕ → List ℕ) → at ≤ m → (m < later) ⊎ (is_refusal answer ≡ true) → ReplaysAs image s.tree ⊎ ReplaysAs image new.tree → IsAllowed (beginning core.opened) es m image =
+        let way : (m : ℕ) (image : ℕ → List ℕ) → at ≤ m → (m < later) ⊎ (is_refusal answer ≡ true) → ReplaysAs s.layout.device_sectors image s.tree ⊎ ReplaysAs new.layout.device_sectors image new.tree → IsAllowed (beginning core.opened) es m image =
         way_answered laws core.opened h at later place line place call reply answer is.released order inside asked.base.placed came s new asked.base.run.state_is opened_call.state_is in
         record {
           between = is.released;
@@ -128,7 +129,7 @@ module _ (laws : AllowedLaws) (edits : EditLaws) (waiting : WaitingLaws) (d d2 :
           meta = is.meta;
           live = live_on core.opened at later h es
               (λ m image lt. early_answered laws core.opened h at later place line place call reply answer is.released order inside asked.base.placed came m image (inl (omega (arith, lt, order))))
-              (λ image. ReplaysAs image s.tree ⊎ ReplaysAs image new.tree) (λ m image from lt r. way m image from (inl lt) r)
+              (λ image. ReplaysAs s.layout.device_sectors image s.tree ⊎ ReplaysAs new.layout.device_sectors image new.tree) (λ m image from lt r. way m image from (inl lt) r)
               s (released_by is.released place new) d.told d2.told is.passed.ops after.disabled begun.disabled begun.journal.log after.journal.log begun.journal.homes after.journal.homes
               start stop live_begun is.passed.told is.passed.always is.kept (λ some image r le. way later image le (inr (is.refused some)) r);
         }
@@ -165,7 +166,7 @@ module _ (laws : AllowedLaws) (edits : EditLaws) (waiting : WaitingLaws) (d d2 :
       (open_released core.opened (h ++ event.Do at 0 line call reply ∷ []) new place line reply is.between place at later opened_call order is.inside) (omega arith) (omega (arith, later_is)) fits in
       let new_state = released_by is.between place new in
       record {
-        run = subst (λ (o : ℕ). IsRun o final.history.items new_state d2.count) (sym opened) (subst (λ (xs : List Event). IsRun core.opened xs new_state d2.count) (sym items) run);
+        run = subst (λ (o : Opened). IsRun o final.history.items new_state d2.count) (sym opened) (subst (λ (xs : List Event). IsRun core.opened xs new_state d2.count) (sym items) run);
         size = omega (arith, asked.base.size, onward.size);
         rest = λ none. subst IsAtRest (sym journal) (rest (sym disabled ∙ none));
         head = omega (arith, head, asked.base.head, size, long, ap (λ j. j.log.head) journal);
@@ -176,7 +177,7 @@ module _ (laws : AllowedLaws) (edits : EditLaws) (waiting : WaitingLaws) (d d2 :
             (placed_answered laws core.opened h at later place line place call reply answer is.between order is.inside asked.base.placed came refl);
         pending = pending_waits is.between place place s new (length final.history.items) asked.done.waits
             (λ b q waits. let before = asked.base.pending b q waits in omega (arith, before, size, long)) (omega (arith, size, long));
-        live = subst (λ (o : ℕ). Told d2 (IsLive o final.history.items final.disabled final.journal.log final.journal.homes new_state)) (sym opened)
+        live = subst (λ (o : Opened). Told d2 (IsLive o final.history.items final.disabled final.journal.log final.journal.homes new_state)) (sym opened)
             (subst (λ (xs : List Event). Told d2 (IsLive core.opened xs final.disabled final.journal.log final.journal.homes new_state)) (sym items)
             (subst (λ (o : Option ℕ). Told d2 (IsLive core.opened es o final.journal.log final.journal.homes new_state)) (sym disabled)
             (subst (λ j. Told d2 (IsLive core.opened es after.disabled j.log j.homes new_state)) (sym journal) is.live)));

@@ -23,13 +23,14 @@ use Rattle.vx_kernel.specs.Journals.{new_log_blocks, IsAtRest, IsMounted, IsKept
 use Rattle.vx_txn.specs.Metas.{IsStateOf}
 use Rattle.vx_txn.specs.declared.meta.Meta.{Meta}
 use Rattle.vx_run.specs.declared.engine.Core.{Core}
+use Rattle.vx_run.specs.declared.engine.Opened.{Opened}
 
 -- where every mount begins: a new file system whose directories have one block at most
 abbrev pub beginning : ℕ → World
 beginning opened = opening opened (fresh new_log_blocks 1)
 
 -- the history is legal, leads to the state, and every call in it is answered
-pub record IsRun (opened : ℕ) (history : List Event) (state : State) (count : ℕ) : Type 0 where
+pub record IsRun (opened : Opened) (history : List Event) (state : State) (count : ℕ) : Type 0 where
   pub legal : Legal (beginning opened) history
   pub state_is : (after_all (beginning opened) history).state ≡ state
   pub idle : (after_all (beginning opened) history).waiting ≡ map.empty
@@ -38,8 +39,8 @@ pub record IsRun (opened : ℕ) (history : List Event) (state : State) (count : 
   pub mounted : (after_all (beginning opened) history).unmounted ≡ false
 
 -- a crash at any earlier moment from the end of the format on leaves what the history allows, and so does one now
-pub record IsLive (opened : ℕ) (history : List Event) (disabled : Option ℕ) (log : LogView) (homes : List AfterImage) (s : State) (t : dev.Tape) : Type 0 where
-  pub past : Past (opened + 70) (IsAllowed (beginning opened) history) t
+pub record IsLive (opened : Opened) (history : List Event) (disabled : Option ℕ) (log : LogView) (homes : List AfterImage) (s : State) (t : dev.Tape) : Type 0 where
+  pub past : Past (opened.operations + 70) (IsAllowed (beginning opened) history) t
   pub kept : disabled ≡ None → IsKept log homes s t
   pub stopped : IsSome disabled → (image : ℕ → List ℕ) → dev.IsImage t image → IsAllowed (beginning opened) history (length t.ops) image
 
@@ -118,7 +119,7 @@ pub record IsCommitted (s new : State) (place : ℕ) (before after : dev.State) 
   pub between : IsBetween released before.count after.count
   pub history : core.history.items ≡ old.history.items ++ releases released place
   pub meta : IsStateOf core.meta (released_by released place new)
-  pub passed : Passed (λ image. ReplaysAs image s.tree ⊎ ReplaysAs image new.tree) before after
+  pub passed : Passed (λ image. ReplaysAs s.layout.device_sectors image s.tree ⊎ ReplaysAs new.layout.device_sectors image new.tree) before after
   pub kept : OnOk result (Told after (IsKept core.journal.log core.journal.homes (released_by released place new)))
 
 -- so it is with a call's answer, and where a write has failed, the answer is a refusal
@@ -127,7 +128,7 @@ pub record IsCarried (s new : State) (place : ℕ) (before after : dev.State) (o
   pub between : IsBetween released before.count after.count
   pub history : core.history.items ≡ old.history.items ++ releases released place
   pub meta : IsStateOf core.meta (released_by released place new)
-  pub passed : Passed (λ image. ReplaysAs image s.tree ⊎ ReplaysAs image new.tree) before after
+  pub passed : Passed (λ image. ReplaysAs s.layout.device_sectors image s.tree ⊎ ReplaysAs new.layout.device_sectors image new.tree) before after
   pub kept : core.disabled ≡ None → Told after (IsKept core.journal.log core.journal.homes (released_by released place new))
   pub refused : IsSome core.disabled → is_refusal answer ≡ true
 
@@ -157,7 +158,7 @@ abbrev pub IsOfLines : List Event → List Call → Type 0
 IsOfLines history calls = filter_map asked_of history ≡ numbered 1 calls
 
 -- a history that goes no further: it is legal, and every call in it is answered
-pub record IsEnded (opened : ℕ) (history : List Event) : Type 0 where
+pub record IsEnded (opened : Opened) (history : List Event) : Type 0 where
   pub legal : Legal (beginning opened) history
   pub answered : (after_all (beginning opened) history).waiting ≡ map.empty
 

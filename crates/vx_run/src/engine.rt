@@ -331,7 +331,7 @@ impl Core {
     pub fn unmount<D: BlockDev>(&mut self, dev: &mut D)
         requires core { IsCore (D.state dev.old) self.old }
         requires room { vec_len self.old.history < vec_capacity self.old.history }
-        ensures allowed { Told (D.state dev.new) (Always (self.new.opened + 70) (IsAllowed (beginning self.new.opened) self.new.history.items)) }
+        ensures allowed { Told (D.state dev.new) (Always (self.new.opened.operations + 70) (IsAllowed (beginning self.new.opened) self.new.history.items)) }
         ensures clean { self.new.disabled ≡ None → Told (D.state dev.new) (IsLeft (after_all (beginning self.new.opened) self.new.history.items).state.tree) }
         ensures ended { IsEnded self.new.opened self.new.history.items }
         ensures unmounted { is_unmounted self.new.opened self.new.history.items ≡ is_none self.new.disabled }

@@ -1,25 +1,40 @@
-use Rattle.std.proofs.Common.{◌≡◌, ℕ, List, ap, subst, ◌∙◌, false, lit≤}
-use Rattle.vx_dev.specs.declared.device.Operation.TheVariants.{Put}
-use Rattle.vx_dev.specs.Tape.{Did}
-use Rattle.vx_layout.specs.Supers.{super_bytes}
-use Rattle.vx_kernel.specs.Journals.{superblock_of}
-use Rattle.vx_kernel.proofs.Formatted.{new_volume, new_parsed, formatted, told_kept, on_ok}
+use Rattle.std.proofs.Common.{◌≡◌, ◌+◌, ◌<◌, ◌≤◌, false, subst, sym, lit≤, arith}
+use Rattle.vx_layout.specs.declared.superblock.Super.{Super}
+use Rattle.vx_layout.specs.Places.{sectors_of}
+use Rattle.vx_layout.specs.Supers.{IsSuper, volume_of}
+use Rattle.vx_log.specs.Moments.{Told}
+use Rattle.std.specs.Prelude.{OnOk, OnErr}
+use Rattle.vx_mkfs.specs.Formats.{IsNewImage, format_operations}
+use Rattle.vx_kernel.specs.Sizes.{superblock_of, unit_volume}
+use Rattle.vx_kernel.proofs.Formatted.{new_parsed, is_super, told_kept, on_ok}
 use Rattle.vx_kernel.proofs.formatting.format.Goals as goal
+
+pub make-requires-clause-is : goal.make-requires-clause-is
+make-requires-clause-is g c = subst IsSuper (sym c.superblock-mounted.ensures) (is_super false)
+
+pub make-requires-clause-size : goal.make-requires-clause-size
+make-requires-clause-size g c = subst (λ (v : Super). sectors_of (volume_of v) ≤ (g.D.BlockDev.state c.args.dev.now).size) (sym c.superblock-mounted.ensures) c.requires
+
+pub returns-clause-onward : goal.returns-clause-onward
+returns-clause-onward g c =
+    let o = c.make.ensures.onward in
+    record { size = o.size; later = o.later; reads = o.reads; faults = o.faults }
+
+pub returns-clause-count : goal.returns-clause-count
+returns-clause-count g c =
+    subst (λ (v : Super). OnOk c.make.result ((g.D.BlockDev.state c.make.new.dev).count ≡ (g.D.BlockDev.state c.args.dev.now).count + format_operations v)) c.superblock-mounted.ensures c.make.ensures.count
+
+pub returns-clause-fewer : goal.returns-clause-fewer
+returns-clause-fewer g c =
+    subst (λ (v : Super). OnErr c.make.result ((g.D.BlockDev.state c.make.new.dev).count < (g.D.BlockDev.state c.args.dev.now).count + format_operations v)) c.superblock-mounted.ensures c.make.ensures.fewer
 
 pub returns-clause-kept : goal.returns-clause-kept
 returns-clause-kept g c =
-    let unit = g.D.BlockDev.state c.put_unit.new.dev in
-    let head = g.D.BlockDev.state c.put.new.dev in
-    let settled = g.D.BlockDev.state c.pass.new.dev in
-    let super = g.D.BlockDev.state c.put-2.new.dev in
-    let new = g.D.BlockDev.state c.pass-2.new.dev in
-    let first = subst (λ (bytes : List ℕ). Did (Put 2 bytes) unit head) c.head_sector.ensures c.in_ok-put.ensures.did in
-    let bytes : c.write.result ≡ super_bytes (superblock_of false) = c.write.ensures ∙ ap super_bytes c.superblock.ensures in
-    let third = subst (λ (bytes : List ℕ). Did (Put 0 bytes) settled super) bytes c.in_ok-put-2.ensures.did in
-    on_ok c.pass-2.result _ _
-    (λ last. told_kept new c.tape_laws.ensures
-    (λ image is. c.fresh_reads.ensures.stands 512 1 (lit≤ tt) (lit≤ tt) image is)
-    (λ image stands s there. c.metadata.ensures.holds new_volume new_parsed image stands s there)
-    (λ s there. c.super_places.ensures.past_log (superblock_of false) s (c.metadata.ensures.inside new_volume new_parsed s there))
-    (formatted c.tape_laws.ensures unit head settled super new c.in_ok-put_unit.ensures.unit first c.in_ok-pass.ensures.did third last))
-    c.pass-2.ensures.did
+    let size = (g.D.BlockDev.state c.args.dev.now).size in
+    let new = g.D.BlockDev.state c.make.new.dev in
+    on_ok c.make.result _ _
+    (told_kept size new
+    (λ image is. c.fresh_reads.ensures.stands (superblock_of false) 1 size image (is_super false) is)
+    (λ image stands s there. c.metadata.ensures.holds unit_volume (new_parsed size) image stands s there)
+    (λ s there. c.super_places.ensures.past_log (superblock_of false) s (c.metadata.ensures.inside unit_volume (new_parsed size) s there)))
+    (subst (λ (v : Super). OnOk c.make.result (Told new (IsNewImage v))) c.superblock-mounted.ensures c.make.ensures.new)

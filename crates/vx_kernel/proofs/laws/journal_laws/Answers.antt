@@ -1,7 +1,6 @@
 use Rattle.std.proofs.Common.{refl, false, lit<}
 use Rattle.vx_layout.specs.Places.{IsVolume}
-use Rattle.vx_kernel.specs.Journals.{superblock_of}
-use Rattle.vx_kernel.specs.JournalLaws.{unit_volume}
+use Rattle.vx_kernel.specs.Sizes.{superblock_of, unit_volume}
 use Rattle.vx_kernel.proofs.laws.journal_laws.Goals as goal
 
 is_volume : IsVolume unit_volume

@@ -3,7 +3,7 @@ use Rattle.vx_dev.specs.declared.device.Operation.TheVariants.{Put}
 use Rattle.vx_dev.specs.Tape.{Did}
 use Rattle.vx_layout.specs.Supers.{volume_of}
 use Rattle.vx_log.specs.Moments.{Told}
-use Rattle.vx_mkfs.specs.Formats.{unit_bytes}
+use Rattle.vx_model.specs.Contents.{unit_bytes}
 use Rattle.vx_mkfs.proofs.Formatted.{IsWithin, unit_more, unit_done}
 use Rattle.vx_mkfs.proofs.formatting.put_unit.Goals as goal
 
@@ -14,7 +14,7 @@ loop-i-preserved g c =
     let superblock = c.args.superblock.now in
     let low : c.loop-i.i < 66 = omega (arith, c.loop-i-test.true) in
     let bytes = subst (λ (bytes : List ℕ). Did (Put (c.get-start.result + c.loop-i.i) bytes) old new) c.unit_sector.ensures c.in_ok-put.ensures.did in
-    let there = subst (λ (start : ℕ). Did (Put (start + c.loop-i.i) (unit_bytes c.args.u c.loop-i.i)) old new) c.loop-i.invariant.start bytes in
+    let there = subst (λ (start : ℕ). Did (Put (start + c.loop-i.i) (unit_bytes 2 c.args.u c.loop-i.i)) old new) c.loop-i.invariant.start bytes in
     record {
       start = c.loop-i.invariant.start;
       limit = omega (arith, c.loop-i-test.true);

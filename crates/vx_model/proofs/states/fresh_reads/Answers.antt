@@ -5,7 +5,7 @@ pub returns-clause-laid_out : goal.returns-clause-laid_out
 returns-clause-laid_out c = laws.fresh_laid
 
 pub returns-clause-stands : goal.returns-clause-stands
-returns-clause-stands c = laws.fresh_stands
+returns-clause-stands c = λ v limit sectors image is formatted. laws.fresh_stands v limit sectors is image formatted
 
 pub returns-clause-reads : goal.returns-clause-reads
 returns-clause-reads c = laws.fresh_reads

@@ -50,6 +50,7 @@ returns-in-Ok-checked_again-clause-read c = λ image here first checked head sta
       first = c.args.first;
       is_first = c.requires.is;
       first_is = here ∙ first;
+      first_room = c.requires.room;
       checked = checked;
       ends = c.args.log.ends;
       is_ends = c.requires.ends;
@@ -78,6 +79,7 @@ returns-in-Ok-checked_again-clause-sound c =
       area = let sectors = ap (λ (l : LogView). l.sectors) c.standing.ensures in omega (arith, sectors, c.requires.room);
       inside = subst (All (λ e. e.0 < c.args.size)) (sym homes) (inside_all c.note_laws.ensures (2 * c.args.first.log_blocks) c.args.size rs c.requires.are.form);
       superblock = c.in-Ok-checked_again.ensures.found.0;
+      room = c.in-Ok-checked_again.ensures.found.2;
     }
 
 pub returns-clause-bad : goal.returns-clause-bad

@@ -19,6 +19,7 @@ use Rattle.vx_run.proofs.Scripts.{ended_unasked, all_built, all_modes}
 use Rattle.vx_run.proofs.Crashing.{live_formatted}
 use Rattle.vx_run.proofs.FaultOrder.{unfaulted}
 use Rattle.vx_run.proofs.top.worked.Goals as goal
+use Rattle.vx_run.specs.declared.engine.Opened.{Opened}
 
 pub returns-in-Err-clause-ended : goal.returns-in-Err-clause-ended
 returns-in-Err-clause-ended g c = ended_unasked
@@ -106,8 +107,8 @@ returns-clause-ended g c =
       asks = c.in-Ok.ensures.asks (g.D.BlockDev.state c.args.dev.now);
       lines = c.unmount.ensures.lines c.in-Ok.calls.items c.answer_all.ensures.lines;
       size = omega (arith, c.sectors-have.ensures, c.if-have-lt-SECTORS.false);
-      ended = subst (λ (o : ℕ). IsEnded o history) opened c.unmount.ensures.ended;
-      unmounted = ap (λ (o : ℕ). is_unmounted o history) (sym opened) ∙ c.unmount.ensures.unmounted ∙ none_or_some c.unmount.new.self.disabled ∙ ap not (sym c.is_some.ensures);
+      ended = subst (λ (o : Opened). IsEnded o history) opened c.unmount.ensures.ended;
+      unmounted = ap (λ (o : Opened). is_unmounted o history) (sym opened) ∙ c.unmount.ensures.unmounted ∙ none_or_some c.unmount.new.self.disabled ∙ ap not (sym c.is_some.ensures);
       count = c.unmount.new.self.disabled;
       count_is = c.is_some.ensures;
       faults = c.unmount.ensures.order (c.answer_all.ensures.order (unfaulted c.in-Ok-fresh.core.disabled (g.D.BlockDev.state c.format.new.dev) c.in-Ok-fresh.core.history.items c.in-Ok-fresh.ensures.enabled c.in-Ok-fresh.ensures.history));

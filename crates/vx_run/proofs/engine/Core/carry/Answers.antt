@@ -17,7 +17,7 @@ returns-in_err-make_room-clause-carried g c = λ s new mounted new_mounted meta 
   between = tt;
   history = sym (append-nil c.args.self.now.history.items);
   meta = meta;
-  passed = passed_weaker (λ image. ReplaysAs image s.tree) (λ image. ReplaysAs image s.tree ⊎ ReplaysAs image new.tree) _ _ (λ image h. inl h)
+  passed = passed_weaker (λ image. ReplaysAs s.layout.device_sectors image s.tree) (λ image. ReplaysAs s.layout.device_sectors image s.tree ⊎ ReplaysAs new.layout.device_sectors image new.tree) _ _ (λ image h. inl h)
       (c.make_room.ensures.passed s mounted (kept_as (g.D.BlockDev.state c.args.dev.now) _ _ _ _ s c.take_ready-batch.ensures.log c.take_ready-batch.ensures.homes kept));
   kept = search rules;
 }

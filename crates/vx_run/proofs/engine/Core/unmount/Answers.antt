@@ -42,9 +42,9 @@ returns-in-Ok-clause-allowed g c =
     let d2 = g.D.BlockDev.state c.unmount.new.dev in
     let s = c.requires.core.state in
     let none = none_of core.disabled c.is_some.result c.is_some.ensures c.if-is_some.false in
-    let passed : Passed (λ image. ReplaysAs image s.tree) d d2 =
+    let passed : Passed (λ image. ReplaysAs s.layout.device_sectors image s.tree) d d2 =
     c.unmount.ensures.passed s c.requires.core.base.mounted (kept_live core.opened core.history.items s d.told core.disabled core.journal.log core.journal.homes none c.requires.core.base.live) in
-    subst (λ (es : List Event). Told d2 (Always (core.opened + 70) (IsAllowed (beginning core.opened) es))) (sym c.push_reserved.ensures.items)
+    subst (λ (es : List Event). Told d2 (Always (core.opened.operations + 70) (IsAllowed (beginning core.opened) es))) (sym c.push_reserved.ensures.items)
     (told_unmounted c.allowed_laws.ensures core.opened core.history.items s d.count c.requires.core.base.run.state_is c.requires.core.base.placed c.requires.core.base.come c.ops-at.result
     d.told d2.told passed.ops core.disabled core.journal.log core.journal.homes (g.met.D.BlockDev.in_step c.args.dev.now)
     (subst (λ (n : ℕ). IfSome d2.told (λ t. length t.ops ≡ n)) (sym c.ops-at.ensures.number) (g.met.D.BlockDev.in_step c.unmount.new.dev)) c.requires.core.base.live passed.told passed.always)
@@ -68,7 +68,7 @@ returns-in-Err-clause-allowed g c =
     let d2 = g.D.BlockDev.state c.unmount.new.dev in
     let s = c.requires.core.state in
     let none = none_of core.disabled c.is_some.result c.is_some.ensures c.if-is_some.false in
-    let passed : Passed (λ image. ReplaysAs image s.tree) d d2 =
+    let passed : Passed (λ image. ReplaysAs s.layout.device_sectors image s.tree) d d2 =
     c.unmount.ensures.passed s c.requires.core.base.mounted (kept_live core.opened core.history.items s d.told core.disabled core.journal.log core.journal.homes none c.requires.core.base.live) in
     told_failed c.allowed_laws.ensures core.opened core.history.items s d.count c.requires.core.base.run.state_is c.requires.core.base.placed c.requires.core.base.come
     d.told d2.told passed.ops core.disabled core.journal.log core.journal.homes (g.met.D.BlockDev.in_step c.args.dev.now) c.requires.core.base.live passed.told passed.always
