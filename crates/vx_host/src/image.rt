@@ -21,6 +21,14 @@ pub enum ImageError {
     InUse,
     #[error("it is the standard input or the standard output")]
     Stream,
+    #[error("there is not enough memory")]
+    NoMemory,
+}
+
+impl From<AllocError> for ImageError {
+    fn from(_: AllocError) -> ImageError {
+        ImageError::NoMemory
+    }
 }
 
 impl From<io::Error> for ImageError {
@@ -80,7 +88,7 @@ fn taken(rt: &HostRuntime, file: File, sectors: u64) -> Result<FileDev<File>, Im
         file.set_len(wanted)?;
         len = wanted;
     }
-    Ok(FileDev::new(file, len / SECTOR))
+    Ok(FileDev::new(rt.alloc(), file, len / SECTOR)?)
 }
 
 /// Whether it is the file of a standard stream. Where the system has no names for these, it counts as none.
