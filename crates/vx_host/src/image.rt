@@ -1,4 +1,5 @@
 //! The file of an image.
+use std::alloc::AllocError;
 use std::fs::{File, Metadata, OpenOptions, TryLockError};
 use std::io::{ErrorKind, Seek, SeekFrom};
 use std::os::unix::fs::MetadataExt;
