@@ -39,6 +39,7 @@ pub change_of : (edits : EditLaws) (waiting : WaitingLaws) (s new : State) (plac
 change_of edits waiting s new place t batch None first last touched waits right whole = record {
   mounted = first;
   new_mounted = last;
+  same_device = waits.same_device;
   is_batch = edits.batch s new t batch first.laid_out last.laid_out touched right whole;
   frees_none = λ b free. waiting.free s new place b waits free;
 }
@@ -48,6 +49,7 @@ change_of edits waiting s new place t batch (Some at) first last touched waits r
     record {
       mounted = mounted_released edits s place first;
       new_mounted = mounted_released edits new place last;
+      same_device = waits.same_device;
       is_batch = subst (λ (p : Parsed). IsBatch v p (parsed_of (with_released new place)) batch) (sym (edits.released_says s place))
           (subst (λ (p : Parsed). IsBatch v (parsed_of s) p batch) (sym (edits.released_says new place)) is);
       frees_none = λ b free. waiting.free_released s new place b waits free;
