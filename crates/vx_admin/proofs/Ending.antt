@@ -22,9 +22,9 @@ takes_of t text (Err e) ok err cause = (err, cause.failed)
 
 -- a replay that was done is a reason for its end
 module _ (old new : State) (r : Result Recovered ReplayRefusal)
-    (left : (t : Tape) (tree : Tree) (records sectors : ℕ) → Shows old t → ReplaysAs (now t) tree → r ≡ Ok (Replayed records sectors) → Told new (IsLeft tree))
+    (left : (t : Tape) (tree : Tree) (records sectors : ℕ) → Shows old t → ReplaysAs old.size (now t) tree → r ≡ Ok (Replayed records sectors) → Told new (IsLeft old.size tree))
     (counted : (t : Tape) (records sectors : ℕ) → Shows old t → r ≡ Ok (Replayed records sectors) → IsCounted old.size (now t) records sectors)
-    (clean : (t : Tape) (tree : Tree) → Shows old t → ReplaysAs (now t) tree → r ≡ Ok Clean → IsClean (now t) tree)
+    (clean : (t : Tape) (tree : Tree) → Shows old t → ReplaysAs old.size (now t) tree → r ≡ Ok Clean → IsClean old.size (now t) tree)
     (settled : (t : Tape) → Shows old t → r ≡ Ok Clean → IsSettled old.size (now t))
     (unwritten : r ≡ Ok Clean → IsRead old new) where
   pub reason_of : (found : Recovered) → r ≡ Ok found → new.write_faults ≡ old.write_faults → HasReason old new (Done found)

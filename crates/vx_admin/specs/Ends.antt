@@ -11,8 +11,9 @@ use Rattle.vx_base.specs.Faults.{Rose}
 use Rattle.vx_dev.specs.Tape.{State, Tape, now}
 use Rattle.vx_layout.specs.Places.{sectors_of}
 use Rattle.vx_layout.specs.Supers.{volume_of}
+use Rattle.vx_layout.specs.declared.superblock.Super.{Super}
 use Rattle.vx_log.specs.Moments.{Told, Always}
-use Rattle.vx_mkfs.specs.Formats.{IsOfSizes, clean_super}
+use Rattle.vx_mkfs.specs.Formats.{IsNewImage}
 use Rattle.vx_model.specs.Replays.{ReplaysAs, IsClean, IsLeft}
 use Rattle.vx_model.specs.Tree.{Tree, empty_root}
 use Rattle.vx_replay.specs.BadImages.{IsBadSuper, IsBadLog}
@@ -26,14 +27,14 @@ use Rattle.vx_script.specs.Puts.{AppendsPrefix}
 pub record IsFoundClean (old new : State) : Type 0 where
   pub read : IsRead old new
   pub settled : (t : Tape) → Shows old t → IsSettled old.size (now t)
-  pub clean : (t : Tape) (tree : Tree) → Shows old t → ReplaysAs (now t) tree → IsClean (now t) tree
+  pub clean : (t : Tape) (tree : Tree) → Shows old t → ReplaysAs old.size (now t) tree → IsClean old.size (now t) tree
 
 -- So many records and sectors of the log were carried home, and no write failed. A crash leaves one image then: it is clean, and
 -- it reads as the tree as which the image replayed before.
 pub record IsCarried (old new : State) (records sectors : ℕ) : Type 0 where
   pub fine : new.write_faults ≡ old.write_faults
   pub counted : (t : Tape) → Shows old t → IsCounted old.size (now t) records sectors
-  pub left : (t : Tape) (tree : Tree) → Shows old t → ReplaysAs (now t) tree → Told new (IsLeft tree)
+  pub left : (t : Tape) (tree : Tree) → Shows old t → ReplaysAs old.size (now t) tree → Told new (IsLeft old.size tree)
 
 -- the image was only read, and its superblock has a bad field
 pub record IsRefusedSuper (old new : State) (field : ℕ) : Type 0 where
@@ -45,21 +46,18 @@ pub record IsRefusedLog (old new : State) (sector : ℕ) : Type 0 where
   pub read : IsRead old new
   pub why : (t : Tape) → Shows old t → IsBadLog old.size (now t) sector
 
--- the sectors that a file system of these sizes takes
-abbrev pub sectors_wanted : (units log_blocks : ℕ) → ℕ
-sectors_wanted units log_blocks = sectors_of (volume_of (clean_super log_blocks units))
-
--- No write failed. A crash leaves one image: it is clean, its superblock says these sizes, and it reads as the root alone.
-pub record IsMade (old new : State) (units log_blocks : ℕ) : Type 0 where
+-- No write failed. A crash leaves one image: that of a new file system with this superblock, which is clean and reads as the root
+-- alone.
+pub record IsMade (old new : State) (superblock : Super) : Type 0 where
   pub fine : new.write_faults ≡ old.write_faults
-  pub left : Told new (IsLeft empty_root)
-  pub sizes : Told new (IsOfSizes log_blocks units)
+  pub left : Told new (IsLeft old.size empty_root)
+  pub is_new : Told new (IsNewImage superblock)
 
 -- what each end says of the device before and after
 abbrev pub HasCause : State → State → End → Type 0
 HasCause old new (Done Clean) = IsFoundClean old new
 HasCause old new (Done (Replayed records sectors)) = IsCarried old new records sectors
-HasCause old new (Made units log_blocks) = IsMade old new units log_blocks
+HasCause old new (Made superblock) = IsMade old new superblock
 HasCause old new BadWords = new ≡ old
 HasCause old new (DeviceTooSmall have want) = new ≡ old
 HasCause old new (Refused (no.BadSuper field)) = IsRefusedSuper old new field
@@ -74,23 +72,23 @@ EndsCheck (Done found) = Unit
 EndsCheck (Refused why) = Unit
 EndsCheck _ = ⊥
 
--- a format of these sizes is made, or a write fails, exactly where a device of so many sectors has room for it
-abbrev pub EndsFormat : (size units log_blocks : ℕ) → End → Type 0
-EndsFormat size units log_blocks (Made u l) = (u ≡ units) × (l ≡ log_blocks) × (sectors_wanted units log_blocks ≤ size)
-EndsFormat size units log_blocks (DeviceTooSmall have want) = (have ≡ size) × (want ≡ sectors_wanted units log_blocks) × (have < want)
-EndsFormat size units log_blocks (Refused no.WriteFault) = sectors_wanted units log_blocks ≤ size
-EndsFormat size units log_blocks _ = ⊥
+-- a format with this superblock is made, or a write fails, exactly where a device of so many sectors has room for it
+abbrev pub EndsFormat : (size : ℕ) → Super → End → Type 0
+EndsFormat size superblock (Made made) = (made ≡ superblock) × (sectors_of (volume_of superblock) ≤ size)
+EndsFormat size superblock (DeviceTooSmall have want) = (have ≡ size) × (want ≡ sectors_of (volume_of superblock)) × (have < want)
+EndsFormat size superblock (Refused no.WriteFault) = sectors_of (volume_of superblock) ≤ size
+EndsFormat size superblock _ = ⊥
 
 -- the ends that may come of what was asked, on a device of so many sectors
 abbrev pub MayEnd : (size : ℕ) → Option Ask → End → Type 0
 MayEnd size None end = end ≡ BadWords
 MayEnd size (Some Fsck) end = EndsCheck end
-MayEnd size (Some (Mkfs units log_blocks)) end = EndsFormat size units log_blocks end
+MayEnd size (Some (Mkfs superblock)) end = EndsFormat size superblock end
 
 -- from the first barrier on every image that a crash leaves replays as the tree as which the image replayed before
 abbrev pub Keeps : State → State → Type 0
 Keeps old new =
-    (t : Tape) (tree : Tree) → Shows old t → ReplaysAs (now t) tree → Told new (Always (length t.ops + 1) (λ _ image. ReplaysAs image tree))
+    (t : Tape) (tree : Tree) → Shows old t → ReplaysAs old.size (now t) tree → Told new (Always (length t.ops + 1) (λ _ image. ReplaysAs old.size image tree))
 
 -- The words decide how it may end, and each end has its cause. However a check ends, the tree is kept.
 pub record HasEnded (words : List (List ℕ)) (old new : State) (end : End) : Type 0 where

@@ -1,11 +1,10 @@
 -- The words of the command line.
-use Rattle.std.specs.Prelude.{ℕ, ◌+◌, ◌-◌, ◌*◌, Bool, ◌&&◌, nat_le, List, [], ◌∷◌, length, get_or, fold, codes, Option, Some, None, if◌then◌else◌}
+use Rattle.std.specs.Prelude.{◌≡◌, ℕ, ◌+◌, ◌-◌, ◌*◌, Bool, true, ◌&&◌, nat_le, List, [], ◌∷◌, length, get_or, fold, codes, Option, Some, None, if◌then◌else◌}
 use Rattle.std.specs.List.{list_all}
 use Rattle.std.specs.Str.{bytes_eq}
 use Rattle.vx_admin.specs.declared.words.Ask.{Ask}
 use Rattle.vx_admin.specs.declared.words.Ask.TheVariants.{Fsck, Mkfs}
 use Rattle.vx_layout.specs.Supers.{IsSuper}
-use Rattle.vx_mkfs.specs.Formats.{clean_super}
 
 abbrev pub is_digit : ℕ → Bool
 is_digit b = nat_le 48 b && nat_le b 57
@@ -28,16 +27,23 @@ units_in word = number_within 1 64 word
 abbrev pub log_blocks_in : List ℕ → Option ℕ
 log_blocks_in word = number_within 256 2048 word
 
--- a new file system, where both sizes are good
+-- what is made where nothing is said of the sizes
+abbrev pub default_units : ℕ
+default_units = 1
+
+abbrev pub default_log_blocks : ℕ
+default_log_blocks = 512
+
+-- the superblock of a new file system that is left clean, where both sizes are good
 unfoldable pub mkfs_of : (units log_blocks : Option ℕ) → Option Ask
-mkfs_of (Some units) (Some log_blocks) = Some (Mkfs units log_blocks)
+mkfs_of (Some units) (Some log_blocks) = Some (Mkfs (record { log_blocks = log_blocks; units = units; clean = true }))
 mkfs_of _ _ = None
 
 -- one option, and the other has its default
 unfoldable pub with_one : (name word : List ℕ) → Option Ask
 with_one name word =
-    if bytes_eq name (codes "--units") then mkfs_of (units_in word) (Some 512)
-    else if bytes_eq name (codes "--log") then mkfs_of (Some 1) (log_blocks_in word)
+    if bytes_eq name (codes "--units") then mkfs_of (units_in word) (Some default_log_blocks)
+    else if bytes_eq name (codes "--log") then mkfs_of (Some default_units) (log_blocks_in word)
     else None
 
 -- both options, in either order
@@ -49,7 +55,7 @@ with_two name word second_name second_word =
 
 -- [--units N] [--log N], in either order
 unfoldable pub sizes_asked : List (List ℕ) → Option Ask
-sizes_asked [] = Some (Mkfs 1 512)
+sizes_asked [] = mkfs_of (Some default_units) (Some default_log_blocks)
 sizes_asked (name ∷ word ∷ []) = with_one name word
 sizes_asked (name ∷ word ∷ second_name ∷ second_word ∷ []) = with_two name word second_name second_word
 sizes_asked _ = None
@@ -71,7 +77,7 @@ abbrev pub asked : List (List ℕ) → Option Ask
 asked (verb ∷ image ∷ options) = asked_by verb options
 asked _ = None
 
--- the sizes are those that a superblock may have
+-- the sizes are those that a superblock may have, and it is marked clean
 abbrev pub IsAsk : Ask → Type 0
 IsAsk Fsck = Unit
-IsAsk (Mkfs units log_blocks) = IsSuper (clean_super log_blocks units)
+IsAsk (Mkfs superblock) = IsSuper superblock × (superblock.clean ≡ true)

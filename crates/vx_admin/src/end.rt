@@ -2,14 +2,15 @@
 ghost use Rattle.std.specs.Prelude.{◌≡◌};
 ghost use Rattle.vx_admin.specs.Output.{status_of, status_at};
 
+use vx_layout::Super;
 use vx_replay::{Recovered, ReplayRefusal};
 
 /// How a check or a format ends.
 #[derive(Clone, Copy, Debug)]
 pub enum End {
     Done(Recovered),
-    /// A new file system of so many allocation units, with a log of so many blocks.
-    Made { units: u32, log_blocks: u32 },
+    /// A new file system with this superblock.
+    Made(Super),
     /// The words of the command line.
     BadWords,
     /// The sectors that the device has, and those that a file system of these sizes wants.
@@ -23,7 +24,7 @@ impl End {
         ensures { result ≡ status_of self.now }
     {
         match self {
-            End::Done(_) | End::Made { .. } => 0,
+            End::Done(_) | End::Made(_) => 0,
             End::BadWords => 1,
             End::DeviceTooSmall { .. } => 2,
             End::Refused(
@@ -40,7 +41,7 @@ impl End {
         ensures { result ≡ status_at self.now written }
     {
         match self {
-            End::Done(_) | End::Made { .. } if !written => 5,
+            End::Done(_) | End::Made(_) if !written => 5,
             _ => self.status(),
         }
     }

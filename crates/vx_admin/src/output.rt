@@ -8,6 +8,7 @@ ghost use Rattle.vx_admin.specs.Output.{name_of, fields_of, replayed_line, made_
 
 use crate::end::End;
 use vx_base::{Sink, SinkFault};
+use vx_layout::Super;
 use vx_replay::{Recovered, ReplayRefusal};
 use vx_script::{TextBuffer, Word, flush, put, put_spaced, put_words};
 
@@ -41,7 +42,7 @@ fn put_text<K: Sink>(out: &mut K, buffer: &mut TextBuffer, end: &End) -> Result<
         End::Done(Recovered::Replayed { records, sectors }) => {
             put_replayed_line(out, buffer, *records, *sectors)
         }
-        End::Made { units, log_blocks } => put_made_line(out, buffer, *units, *log_blocks),
+        End::Made(superblock) => put_made_line(out, buffer, superblock),
         End::Refused(ReplayRefusal::NoMemory) => Ok(()),
         _ => put_refused_line(out, buffer, end),
     }
@@ -71,16 +72,18 @@ fn put_replayed_line<K: Sink>(
 fn put_made_line<K: Sink>(
     out: &mut K,
     buffer: &mut TextBuffer,
-    units: u32,
-    log_blocks: u32,
+    superblock: &Super,
 ) -> Result<(), SinkFault>
-    ensures { Puts K.taken K.fault_count out.old out.new buffer.old buffer.new result (made_line units log_blocks) }
+    ensures { Puts K.taken K.fault_count out.old out.new buffer.old buffer.new result (made_line superblock.now) }
 {
     put(out, buffer, b"made")?;
     put_words(
         out,
         buffer,
-        &[Word::Number(units as u64), Word::Number(log_blocks as u64)],
+        &[
+            Word::Number(superblock.units as u64),
+            Word::Number(superblock.log_blocks as u64),
+        ],
     )?;
     put(out, buffer, b"\n")
 }
@@ -121,7 +124,7 @@ fn name(end: &End) -> &'static [u8]
     ensures { result.now ≡ name_of end.now }
 {
     match end {
-        End::Done(_) | End::Made { .. } => b"",
+        End::Done(_) | End::Made(_) => b"",
         End::BadWords => b"BadWords",
         End::DeviceTooSmall { .. } => b"DeviceTooSmall",
         End::Refused(ReplayRefusal::BadSuper { field: _ }) => b"BadSuper",

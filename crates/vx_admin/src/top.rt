@@ -1,9 +1,8 @@
 //! The top call.
-ghost use Rattle.std.specs.Prelude.{◌≡◌, map};
+ghost use Rattle.std.specs.Prelude.{◌≡◌, map, true};
 ghost use Rattle.std.specs.String.{string_bytes};
 ghost use Rattle.vx_dev.specs.Tape.{State};
 ghost use Rattle.vx_layout.specs.Supers.{IsSuper};
-ghost use Rattle.vx_mkfs.specs.Formats.{clean_super};
 ghost use Rattle.vx_admin.specs.Ends.{EndsCheck, EndsFormat, Keeps, HasCause, HasEnded, IsAdministered};
 
 use crate::end::End;
@@ -12,7 +11,7 @@ use crate::words::{Ask, asked};
 use std::alloc::Global;
 use vx_base::Sink;
 use vx_dev::{BlockDev, DevFault};
-use vx_layout::sectors_needed;
+use vx_layout::{Super, sectors_needed};
 use vx_mkfs::make;
 use vx_replay::{ReplayRefusal, replay};
 
@@ -51,7 +50,7 @@ fn ended<D: BlockDev>(alloc: Global, words: &[String], dev: &mut D) -> End
     match asked(words) {
         None => End::BadWords,
         Some(Ask::Fsck) => checked(alloc, dev),
-        Some(Ask::Mkfs { units, log_blocks }) => formatted(dev, units, log_blocks),
+        Some(Ask::Mkfs(superblock)) => formatted(dev, superblock),
     }
 }
 
@@ -68,18 +67,19 @@ fn checked<D: BlockDev>(alloc: Global, dev: &mut D) -> End
 }
 
 /// Writes a new file system, where the device has room for it.
-fn formatted<D: BlockDev>(dev: &mut D, units: u32, log_blocks: u32) -> End
-    requires { IsSuper (clean_super log_blocks units) }
-    ensures ends { EndsFormat (D.state dev.old).size units log_blocks result }
+fn formatted<D: BlockDev>(dev: &mut D, superblock: Super) -> End
+    requires is { IsSuper superblock }
+    requires clean { superblock.clean ≡ true }
+    ensures ends { EndsFormat (D.state dev.old).size superblock result }
     ensures cause { HasCause (D.state dev.old) (D.state dev.new) result }
 {
     let have = dev.sectors();
-    let want = sectors_needed(log_blocks, units);
+    let want = sectors_needed(superblock.log_blocks, superblock.units);
     if have < want {
         return End::DeviceTooSmall { have, want };
     }
-    match make(dev, log_blocks, units) {
-        Ok(()) => End::Made { units, log_blocks },
+    match make(dev, &superblock) {
+        Ok(()) => End::Made(superblock),
         Err(DevFault) => End::Refused(ReplayRefusal::WriteFault),
     }
 }

@@ -4,6 +4,8 @@ ghost use Rattle.std.specs.List.{list_all};
 ghost use Rattle.std.specs.String.{string_bytes};
 ghost use Rattle.vx_admin.specs.Words.{is_digit, is_number, number_of, number_within, units_in, log_blocks_in, mkfs_of, with_one, with_two, sizes_asked, check_asked, asked_by, asked, IsAsk};
 
+use vx_layout::Super;
+
 /// The allocation units of a new file system, where nothing is said of them.
 const UNITS: u32 = 1;
 
@@ -15,8 +17,8 @@ const LOG_BLOCKS: u32 = 512;
 pub enum Ask {
     /// The replay of a stopped image.
     Fsck,
-    /// A new file system of so many allocation units, 1 to 64, with a log of so many blocks, 256 to 2,048.
-    Mkfs { units: u32, log_blocks: u32 },
+    /// A new file system with this superblock, of 1 to 64 allocation units and a log of 256 to 2,048 blocks, which is left clean.
+    Mkfs(Super),
 }
 
 /// What the words ask for: `fsck IMAGE`, or `mkfs IMAGE` with `--units N` and `--log N` behind it, each once or not at all.
@@ -60,10 +62,7 @@ fn sizes_asked(options: &[String]) -> Option<Ask>
     ensures sizes { IfSome result IsAsk }
 {
     match options {
-        [] => Some(Ask::Mkfs {
-            units: UNITS,
-            log_blocks: LOG_BLOCKS,
-        }),
+        [] => mkfs(Some(UNITS), Some(LOG_BLOCKS)),
         [name, word] => with_one(name.as_bytes(), word.as_bytes()),
         [name, word, second_name, second_word] => with_two(
             name.as_bytes(),
@@ -114,7 +113,11 @@ fn mkfs(units: Option<u32>, log_blocks: Option<u32>) -> Option<Ask>
     ensures sizes { IfSome result IsAsk }
 {
     match (units, log_blocks) {
-        (Some(units), Some(log_blocks)) => Some(Ask::Mkfs { units, log_blocks }),
+        (Some(units), Some(log_blocks)) => Some(Ask::Mkfs(Super {
+            log_blocks,
+            units,
+            clean: true,
+        })),
         _ => None,
     }
 }

@@ -3,7 +3,7 @@ use Rattle.std.proofs.Common.{◌≡◌, ◌⊎◌, ℕ, List, [], Option, Some,
 use Rattle.std.specs.List.{AllByRecursion}
 use Rattle.std.specs.Prelude.{◌+◌, ◌*◌, ◌<◌, ◌≤◌, All, IfSome, IsTrue, is_some, unwrap_or}
 use Rattle.vx_dev.specs.Tape.{State as Device, Tape}
-use Rattle.vx_layout.specs.LogForms.{AfterImage, LogState}
+use Rattle.vx_layout.specs.LogForms.{AfterImage, IsRecord, LogState}
 use Rattle.vx_layout.specs.Places.{Volume}
 use Rattle.vx_log.specs.Logs.{LogView}
 use Rattle.vx_log.specs.Moments.{Told, Passed}
@@ -20,6 +20,7 @@ use Rattle.vx_model.specs.Waiting.{Waits, WaitingLaws}
 use Rattle.vx_run.specs.Cores.{released_by}
 use Rattle.vx_kernel.specs.Devices.{IsInside}
 use Rattle.vx_kernel.specs.Journals.{IsMounted, IsChange, IsKept}
+use Rattle.vx_kernel.specs.Sizes.{new_log_sectors}
 
 pub mounted_released : (edits : EditLaws) (s : State) (upto : ℕ) → IsMounted s → IsMounted (with_released s upto)
 mounted_released edits s upto is = record { laid_out = edits.released s upto is.laid_out; log_blocks = is.log_blocks; units = is.units }
@@ -39,6 +40,7 @@ pub change_of : (edits : EditLaws) (waiting : WaitingLaws) (s new : State) (plac
 change_of edits waiting s new place t batch None first last touched waits right whole = record {
   mounted = first;
   new_mounted = last;
+  same_device = waits.same_device;
   is_batch = edits.batch s new t batch first.laid_out last.laid_out touched right whole;
   frees_none = λ b free. waiting.free s new place b waits free;
 }
@@ -48,6 +50,7 @@ change_of edits waiting s new place t batch (Some at) first last touched waits r
     record {
       mounted = mounted_released edits s place first;
       new_mounted = mounted_released edits new place last;
+      same_device = waits.same_device;
       is_batch = subst (λ (p : Parsed). IsBatch v p (parsed_of (with_released new place)) batch) (sym (edits.released_says s place))
           (subst (λ (p : Parsed). IsBatch v (parsed_of s) p batch) (sym (edits.released_says new place)) is);
       frees_none = λ b free. waiting.free_released s new place b waits free;
@@ -101,7 +104,7 @@ kept_same edits waiting s new place t log homes tape first last touched none wai
         superblock_is = kept.is_reading.superblock_is;
         serial = kept.is_reading.serial;
         limit = kept.is_reading.limit;
-        form = kept.is_reading.form;
+        form = subst (λ (sectors : ℕ). AllByRecursion (IsRecord new_log_sectors sectors) kept.reading.records) (sym waits.same_device) kept.is_reading.form;
       };
       stands = kept.stands;
       noted = kept.noted;

@@ -103,9 +103,9 @@ stays laws opened h events longer m image placed whole quiet is = subst (λ (es 
 
 -- an image replays as the tree after the history
 pub replays : (laws : AllowedLaws) (opened : Opened) (h events longer : List Event) (s : State) (m : ℕ) (image : ℕ → List ℕ) → All (IsPlaced (length h)) h → h ++ events ≡ longer → AllByRecursion (IsQuiet m) events
-    → come_by h m ≡ length h → (after_all (beginning opened) h).state.tree ≡ s.tree → ReplaysAs s.layout.device_sectors image s.tree → IsAllowed (beginning opened) longer m image
+    → come_by h m ≡ length h → (after_all (beginning opened) h).state ≡ s → ReplaysAs s.layout.device_sectors image s.tree → IsAllowed (beginning opened) longer m image
 replays laws opened h events longer s m image placed whole quiet came same is = subst (λ (es : List Event). IsAllowed (beginning opened) es m image) whole
-    (laws.front (beginning opened) h events m image s.tree placed quiet (omega (arith, came)) (sym same) is)
+    (laws.front (beginning opened) h events m image s placed quiet (omega (arith, came)) same is)
 
 -- ---- a call and its answer
 
@@ -160,9 +160,9 @@ module _ (laws : AllowedLaws) (opened : Opened) (h : List Event) (at later place
   pub way_answered : (s new : State) → (after_all (beginning opened) h).state ≡ s → (after_all (beginning opened) (h ++ first ∷ [])).state ≡ new
       → (m : ℕ) (image : ℕ → List ℕ) → at ≤ m → IsUnanswered m → ReplaysAs s.layout.device_sectors image s.tree ⊎ ReplaysAs new.layout.device_sectors image new.tree → IsAllowed (beginning opened) longer m image
   way_answered s new was is m image from open' (inl r) =
-      replays laws opened h (first ∷ rest) longer s m image placed whole (tt, quiet m open') (came m from) (ap (λ (x : State). x.tree) was) r
+      replays laws opened h (first ∷ rest) longer s m image placed whole (tt, quiet m open') (came m from) was r
   way_answered s new was is m image from open' (inr r) =
-      replays laws opened (h ++ first ∷ []) rest longer new m image placed_begun behind (quiet m open') (come_begun m from) (ap (λ (x : State). x.tree) is) r
+      replays laws opened (h ++ first ∷ []) rest longer new m image placed_begun behind (quiet m open') (come_begun m from) is r
 
   pub placed_answered : place ≡ length h → All (IsPlaced (length longer)) longer
   placed_answered at_end =
@@ -183,7 +183,7 @@ module _ (laws : AllowedLaws) (opened : Opened) (h : List Event) (s : State) (st
 
   pub way_released : (m : ℕ) (image : ℕ → List ℕ) → start ≤ m → ReplaysAs s.layout.device_sectors image s.tree → IsAllowed (beginning opened) (h ++ event.Release at upto ∷ []) m image
   way_released m image from is =
-      laws.front (beginning opened) h (event.Release at upto ∷ []) m image s.tree placed (tt, tt) (omega (arith, came m from)) (ap (λ (x : State). x.tree) (sym state_is)) is
+      laws.front (beginning opened) h (event.Release at upto ∷ []) m image s placed (tt, tt) (omega (arith, came m from)) state_is is
 
   pub placed_released : All (IsPlaced (length (h ++ event.Release at upto ∷ []))) (h ++ event.Release at upto ∷ [])
   placed_released = laws.placed h (event.Release at upto ∷ []) placed (tt, tt)
@@ -197,7 +197,7 @@ module _ (laws : AllowedLaws) (opened : Opened) (h : List Event) (s : State) (st
     (placed : All (IsPlaced (length h)) h) (came : (m : ℕ) → start ≤ m → come_by h m ≡ length h) where
   -- an image that replays as the last tree
   pub at_end : (m : ℕ) (image : ℕ → List ℕ) → start ≤ m → ReplaysAs s.layout.device_sectors image s.tree → IsAllowed (beginning opened) h m image
-  at_end m image from is = replays laws opened h [] h s m image placed (append-nil h) tt (came m from) (ap (λ (x : State). x.tree) state_is) is
+  at_end m image from is = replays laws opened h [] h s m image placed (append-nil h) tt (came m from) state_is is
 
   always_failed : (t : Tape) (ops : List Operation) → length t.ops ≡ start → Past (opened.operations + 70) (IsAllowed (beginning opened) h) t
       → Always (length t.ops) (λ _ image. ReplaysAs s.layout.device_sectors image s.tree) (did_all ops t) → Always (opened.operations + 70) (IsAllowed (beginning opened) h) (did_all ops t)
@@ -227,7 +227,7 @@ module _ (laws : AllowedLaws) (opened : Opened) (h : List Event) (s : State) (st
   at_unmounted at m image order from is =
       let longer = h ++ event.Unmounted at ∷ [] in
       let come : come_by longer m ≡ length longer = laws.come h (event.Unmounted at ∷ []) m (from, tt) ∙ omega (arith, came m (omega (arith, order, from)), length-append h (event.Unmounted at ∷ [])) in
-      replays laws opened longer [] longer s m image (laws.placed h (event.Unmounted at ∷ []) placed (tt, tt)) (append-nil longer) tt come (ap (λ (x : State). x.tree) (state_unmounted at)) is
+      replays laws opened longer [] longer s m image (laws.placed h (event.Unmounted at ∷ []) placed (tt, tt)) (append-nil longer) tt come (state_unmounted at) is
 
   always_unmounted : (at : ℕ) (t : Tape) (ops : List Operation) → length t.ops ≡ start → length (did_all ops t).ops ≡ at → Past (opened.operations + 70) (IsAllowed (beginning opened) h) t
       → Always (length t.ops) (λ _ image. ReplaysAs s.layout.device_sectors image s.tree) (did_all ops t) → Always (opened.operations + 70) (IsAllowed (beginning opened) (h ++ event.Unmounted at ∷ [])) (did_all ops t)
@@ -235,7 +235,7 @@ module _ (laws : AllowedLaws) (opened : Opened) (h : List Event) (s : State) (st
     | inl early ↦ laws.later (beginning opened) h (event.Unmounted at ∷ []) m image placed (omega (arith, early, ends, length-append t.ops ops), tt)
         (past m from early image (subst (λ (u : Tape). IsImage u image) (upto-front m ops t (omega (arith, early))) is))
     | inr on ↦ elim (cases_lt m at) [
-      | inl soon ↦ laws.front (beginning opened) h (event.Unmounted at ∷ []) m image s.tree placed (soon, tt) (omega (arith, came m (omega (arith, begins, on)))) (ap (λ (x : State). x.tree) (sym state_is))
+      | inl soon ↦ laws.front (beginning opened) h (event.Unmounted at ∷ []) m image s placed (soon, tt) (omega (arith, came m (omega (arith, begins, on)))) state_is
           (always m on le image is)
       | inr last ↦ at_unmounted at m image (omega (arith, begins, ends, length-append t.ops ops)) last (always m on le image is)
     ]

@@ -72,7 +72,7 @@ touched_none : (s : State) (t : Touched) → IsTouched s s t
 touched_none s t = record { same_volume = refl; inodes = λ n e. refl; directories = λ n e. refl; units = λ u j lt e. refl }
 
 waits_none : (place : ℕ) (s : State) → Waits place s s
-waits_none place s = record { same_volume = refl; claimed = λ b h. inl h; pending = λ b. inl refl }
+waits_none place s = record { same_volume = refl; same_device = refl; claimed = λ b h. inl h; pending = λ b. inl refl }
 
 -- a refusal that may come at any time leaves the metadata as they were
 pub refused_of : (s : State) (place : ℕ) (c : Call) (reply : Reply) (why : Refusal) (m : Meta) (t : Touched) → has_step c ≡ true → IsMounted s → IsStateOf m s → reply ≡ say.Refused why → is_any_time why ≡ true

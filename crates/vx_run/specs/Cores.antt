@@ -19,15 +19,16 @@ use Rattle.vx_model.specs.Step.{step}
 use Rattle.vx_model.specs.Touching.{Touched, IsTouched, untouched}
 use Rattle.vx_model.specs.Waiting.{Waits}
 use Rattle.vx_model.specs.Legal.{World, opening, after_all, Legal, IfThere, is_fault, is_no_space, state_after, with_released}
-use Rattle.vx_kernel.specs.Journals.{new_log_blocks, IsAtRest, IsMounted, IsKept}
+use Rattle.vx_kernel.specs.Journals.{IsAtRest, IsMounted, IsKept}
+use Rattle.vx_kernel.specs.Sizes.{new_log_blocks}
 use Rattle.vx_txn.specs.Metas.{IsStateOf}
 use Rattle.vx_txn.specs.declared.meta.Meta.{Meta}
 use Rattle.vx_run.specs.declared.engine.Core.{Core}
 use Rattle.vx_run.specs.declared.engine.Opened.{Opened}
 
 -- where every mount begins: a new file system whose directories have one block at most
-abbrev pub beginning : ℕ → World
-beginning opened = opening opened (fresh new_log_blocks 1)
+abbrev pub beginning : Opened → World
+beginning opened = opening opened.operations (fresh new_log_blocks 1 opened.sectors)
 
 -- the history is legal, leads to the state, and every call in it is answered
 pub record IsRun (opened : Opened) (history : List Event) (state : State) (count : ℕ) : Type 0 where
@@ -163,5 +164,5 @@ pub record IsEnded (opened : Opened) (history : List Event) : Type 0 where
   pub answered : (after_all (beginning opened) history).waiting ≡ map.empty
 
 -- whether the file system was left clean
-abbrev pub is_unmounted : ℕ → List Event → Bool
+abbrev pub is_unmounted : Opened → List Event → Bool
 is_unmounted opened history = (after_all (beginning opened) history).unmounted

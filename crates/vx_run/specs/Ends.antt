@@ -19,6 +19,7 @@ use Rattle.vx_model.specs.Allowed.{IsAllowed}
 use Rattle.vx_model.specs.Legal.{after_all}
 use Rattle.vx_model.specs.Replays.{IsLeft}
 use Rattle.vx_run.specs.Faults.{EndInOrder}
+use Rattle.vx_run.specs.declared.engine.Opened.{Opened}
 use Rattle.vx_run.specs.Cores.{beginning, IsEnded, is_unmounted, IsOfLines}
 
 -- what a run is given: its words, its script where the source tells it, its device, and the source's faults so far
@@ -35,6 +36,10 @@ sectors_needed = 9220
 -- the operations of a format
 abbrev pub format_ops : ℕ
 format_ops = 70
+
+-- the device as the run begins
+abbrev pub opened_on : dev.State → Opened
+opened_on d = record { operations = d.count; sectors = d.size }
 
 -- how a run ends: it is refused before the first call, or it answers all lines, disabled by a failed write or not
 pub data End : Type 0 where
@@ -86,16 +91,16 @@ pub record IsFinished (s : Setting) (d : dev.State) (disabled : Bool) (history :
   pub asks : Asks s calls
   pub lines : IsOfLines history calls
   pub size : sectors_needed ≤ s.device.size
-  pub ended : IsEnded s.device.count history
-  pub unmounted : is_unmounted s.device.count history ≡ not disabled
+  pub ended : IsEnded (opened_on s.device) history
+  pub unmounted : is_unmounted (opened_on s.device) history ≡ not disabled
   pub count : Option ℕ
   pub count_is : disabled ≡ is_some count
   pub faults : EndInOrder count d history
   pub fine : disabled ≡ false → d.write_faults ≡ s.device.write_faults
   pub rose : disabled ≡ true → Rose s.device.write_faults d.write_faults
   pub formatted : s.device.count + format_ops ≤ d.count
-  pub crash : Told d (Always (s.device.count + format_ops) (IsAllowed (beginning s.device.count) history))
-  pub clean : disabled ≡ false → Told d (IsLeft (after_all (beginning s.device.count) history).state.tree)
+  pub crash : Told d (Always (s.device.count + format_ops) (IsAllowed (beginning (opened_on s.device)) history))
+  pub clean : disabled ≡ false → Told d (IsLeft s.device.size (after_all (beginning (opened_on s.device)) history).state.tree)
 
 -- the cause of each end
 abbrev pub HasEnded : Setting → dev.State → ℕ → End → Type 0

@@ -27,6 +27,15 @@ use vx_model::edits::edit_laws;
 use vx_model::waiting::waiting_laws;
 use vx_txn::{Meta, Touched, stage};
 
+/// A device on which a history begins.
+#[derive(Clone, Copy)]
+pub struct Opened {
+    /// The operations done on it so far.
+    pub operations: u64,
+    /// Its number of sectors.
+    pub sectors: u64,
+}
+
 /// What a mount keeps beside its device.
 #[derive(Drop)]
 pub struct Core {
@@ -37,8 +46,8 @@ pub struct Core {
     pub history: Vec<Event>,
     /// The device's count of failed writes, from the first one in this mount on.
     pub disabled: Option<u64>,
-    /// The operations done on the device when the history began.
-    pub opened: u64,
+    /// The device when the history began.
+    pub opened: Opened,
 }
 
 impl Core {
@@ -50,23 +59,24 @@ impl Core {
     ghost use Rattle.vx_model.specs.LaidOut.{IsLaidOut};
     ghost use Rattle.vx_model.specs.Touching.{IsTouched};
     ghost use Rattle.vx_model.specs.Waiting.{Waits};
-    ghost use Rattle.vx_kernel.specs.Journals.{new_log_blocks, IsAtRest, IsMounted, IsKept};
+    ghost use Rattle.vx_kernel.specs.Journals.{IsAtRest, IsMounted, IsKept};
+    ghost use Rattle.vx_kernel.specs.Sizes.{new_log_blocks, new_log_sectors};
     ghost use Rattle.vx_model.specs.Replays.{IsLeft};
     ghost use Rattle.vx_run.specs.Cores.{beginning, IsCore, IsUntouched, IsCarried, IsCommitted, IsAnswered, IsRun, IsEnded, is_unmounted, IsOfLines, TellsFaults};
 
     /// A mount of a new file system. It takes all memory for the history of so many lines.
-    pub fn fresh(alloc: Global, lines: usize, opened: u64) -> Result<Self, AllocError>
+    pub fn fresh(alloc: Global, lines: usize, opened: Opened) -> Result<Self, AllocError>
         requires { lines ≤ 65535 }
-        ensures run { IfOk result (λ core. (count : ℕ) → opened ≤ count → IsRun core.opened core.history.items (fresh new_log_blocks 1) count) }
+        ensures run { IfOk result (λ core. (count : ℕ) → opened.operations ≤ count → IsRun core.opened core.history.items (fresh new_log_blocks 1 opened.sectors) count) }
         ensures rest { IfOk result (λ core. IsAtRest core.journal) }
         ensures head { IfOk result (λ core. core.journal.log.head ≡ 0) }
         ensures history { IfOk result (λ core. core.history.items ≡ []) }
         ensures room { IfOk result (λ core. 4 * lines + 1 ≤ vec_capacity core.history) }
         ensures enabled { IfOk result (λ core. core.disabled ≡ None) }
         ensures opened { IfOk result (λ core. core.opened ≡ opened) }
-        ensures log { IfOk result (λ core. core.journal.log ≡ fresh_log 1024) }
+        ensures log { IfOk result (λ core. core.journal.log ≡ fresh_log new_log_sectors) }
         ensures homes { IfOk result (λ core. core.journal.homes ≡ []) }
-        ensures meta { IfOk result (λ core. IsStateOf core.meta (fresh new_log_blocks 1)) }
+        ensures meta { IfOk result (λ core. IsStateOf core.meta (fresh new_log_blocks 1 opened.sectors)) }
         ensures touched { IfOk result (λ core. core.touched ≡ untouched) }
     {
         let journal = Journal::new(alloc)?;
@@ -332,7 +342,7 @@ impl Core {
         requires core { IsCore (D.state dev.old) self.old }
         requires room { vec_len self.old.history < vec_capacity self.old.history }
         ensures allowed { Told (D.state dev.new) (Always (self.new.opened.operations + 70) (IsAllowed (beginning self.new.opened) self.new.history.items)) }
-        ensures clean { self.new.disabled ≡ None → Told (D.state dev.new) (IsLeft (after_all (beginning self.new.opened) self.new.history.items).state.tree) }
+        ensures clean { self.new.disabled ≡ None → Told (D.state dev.new) (IsLeft self.new.opened.sectors (after_all (beginning self.new.opened) self.new.history.items).state.tree) }
         ensures ended { IsEnded self.new.opened self.new.history.items }
         ensures unmounted { is_unmounted self.new.opened self.new.history.items ≡ is_none self.new.disabled }
         ensures order { AreInOrder self.old.disabled (D.state dev.old) self.old.history.items → EndInOrder self.new.disabled (D.state dev.new) self.new.history.items }

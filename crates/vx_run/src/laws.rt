@@ -8,7 +8,7 @@ use vx_model::reads;
 
 /// An image replays as one tree at most.
 pub fn replays_once()
-    ensures { (image : ℕ → List ℕ) (t u : Tree) → ReplaysAs image t → ReplaysAs image u → t ≡ u }
+    ensures { (m n : ℕ) (image : ℕ → List ℕ) (t u : Tree) → ReplaysAs m image t → ReplaysAs n image u → t ≡ u }
 {
     inode_spelling();
     dir_spelling();

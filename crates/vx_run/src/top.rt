@@ -5,7 +5,7 @@ ghost use Rattle.vx_dev.specs.Tape.{State};
 ghost use Rattle.vx_run.specs.Ends.{Asks, IsUnasked, HasEnded, IsRan};
 ghost use Rattle.vx_run.specs.Outcomes.{end_of, HasShortHistory};
 
-use crate::engine::Core;
+use crate::engine::{Core, Opened};
 use crate::gate::Gate;
 use crate::outcome::Outcome;
 use crate::read::{ReadRefusal, read_all};
@@ -128,7 +128,11 @@ fn worked<D: BlockDev, S: Source>(
             want: SECTORS,
         });
     }
-    let mut core = match Core::fresh(alloc, calls.len(), dev.ops()) {
+    let opened = Opened {
+        operations: dev.ops(),
+        sectors: have,
+    };
+    let mut core = match Core::fresh(alloc, calls.len(), opened) {
         Ok(core) => core,
         Err(_) => return Outcome::Refused(StartRefusal::NoMemory),
     };

@@ -182,13 +182,13 @@ none_claimed l b (suc n) none = rw (none n) (none_claimed l b n none)
 abbrev pub root_inode : Inode
 root_inode = record { kind = kind.Directory; mode = 493; nlink = 1; size = 0; attrs = no_attrs }
 
-module _ (m : Meta) (log_blocks : ℕ) (inodes : m.inodes ≡ record { units = 1; inodes = map.insert map.empty 2 root_inode }) (directories : m.directories.items ≡ None ∷ None ∷ Some empty_directory ∷ [])
+module _ (m : Meta) (log_blocks device_sectors : ℕ) (inodes : m.inodes ≡ record { units = 1; inodes = map.insert map.empty 2 root_inode }) (directories : m.directories.items ≡ None ∷ None ∷ Some empty_directory ∷ [])
     (free : m.free ≡ all_free (2 + log_blocks) 4063 1) (first : m.first ≡ 2 + log_blocks) where
   abbrev all : FreeMapView
   all = all_free (2 + log_blocks) 4063 1
 
   abbrev layout_is : Layout
-  layout_is = (fresh log_blocks 1).layout
+  layout_is = (fresh log_blocks 1 device_sectors).layout
 
   all_are_free : (b : ℕ) → is_free_block all b ≡ is_free layout_is b
   all_are_free b =
@@ -203,9 +203,9 @@ module _ (m : Meta) (log_blocks : ℕ) (inodes : m.inodes ≡ record { units = 1
         | inr none ↦ and_left _ _ none ∙ sym (rhs ∙ and_left _ _ (sym same ∙ none))
       ]
 
-  inode_fresh : (n : ℕ) → inode_at m.inodes n ≡ inode_of_option [] (map.get (fresh log_blocks 1).tree.nodes n)
+  inode_fresh : (n : ℕ) → inode_at m.inodes n ≡ inode_of_option [] (map.get (fresh log_blocks 1 device_sectors).tree.nodes n)
   inode_fresh n = ap (λ (t : Table). inode_at t n) inodes ∙ elim (cases_eq n 2) [
-    | inl here ↦ subst (λ (x : ℕ). map.get (map.insert (map.empty {R = nat_cmp}) 2 root_inode) x ≡ inode_of_option [] (map.get (fresh log_blocks 1).tree.nodes x)) (sym here)
+    | inl here ↦ subst (λ (x : ℕ). map.get (map.insert (map.empty {R = nat_cmp}) 2 root_inode) x ≡ inode_of_option [] (map.get (fresh log_blocks 1 device_sectors).tree.nodes x)) (sym here)
         (at_key map.empty 2 root_inode ∙ sym (ap (inode_of_option []) (at_key map.empty 2 (new_directory 493))))
     | inr other ↦ at_other map.empty 2 root_inode n other ∙ map.get-empty nat_cmp n
         ∙ sym (ap (inode_of_option []) (at_other map.empty 2 (new_directory 493) n other ∙ map.get-empty nat_cmp n))
@@ -230,7 +230,7 @@ module _ (m : Meta) (log_blocks : ℕ) (inodes : m.inodes ≡ record { units = 1
     | inr other ↦ subst (λ (i : Option Inode). HasDirectory i (directory_at (None ∷ None ∷ Some empty_directory ∷ []) n)) (sym (at_other map.empty 2 root_inode n other ∙ map.get-empty nat_cmp n)) (none_at n other)
   ]
 
-  pub fresh_is : IsStateOf m (fresh log_blocks 1)
+  pub fresh_is : IsStateOf m (fresh log_blocks 1 device_sectors)
   fresh_is = record {
     inodes = inode_fresh;
     blocks = λ n. sym (ap (λ (x : List (Option DirectoryValue)). blocks_in (directory_at x n)) directories ∙ no_blocks n);
@@ -250,16 +250,16 @@ module _ (m : Meta) (log_blocks : ℕ) (inodes : m.inodes ≡ record { units = 1
 
 -- ---- a state of which an image reads as the tree
 
-held_fresh : (log_blocks n : ℕ) → IsHeld (fresh log_blocks 1).layout n (map.get (fresh log_blocks 1).tree.nodes n)
-held_fresh log_blocks n = elim (cases_eq n 2) [
-  | inl here ↦ subst (λ (x : ℕ). IsHeld (fresh log_blocks 1).layout x (map.get (fresh log_blocks 1).tree.nodes x)) (sym here)
-      (subst (λ (o : Option Node). IsHeld (fresh log_blocks 1).layout 2 o) (sym (at_key map.empty 2 (new_directory 493))) ((lit≤ tt, refl), lit≤ tt, lit< tt))
-  | inr other ↦ subst (λ (o : Option Node). IsHeld (fresh log_blocks 1).layout n o) (sym (at_other map.empty 2 (new_directory 493) n other ∙ map.get-empty nat_cmp n)) refl
+held_fresh : (log_blocks device_sectors n : ℕ) → IsHeld (fresh log_blocks 1 device_sectors).layout n (map.get (fresh log_blocks 1 device_sectors).tree.nodes n)
+held_fresh log_blocks device_sectors n = elim (cases_eq n 2) [
+  | inl here ↦ subst (λ (x : ℕ). IsHeld (fresh log_blocks 1 device_sectors).layout x (map.get (fresh log_blocks 1 device_sectors).tree.nodes x)) (sym here)
+      (subst (λ (o : Option Node). IsHeld (fresh log_blocks 1 device_sectors).layout 2 o) (sym (at_key map.empty 2 (new_directory 493))) ((lit≤ tt, refl), lit≤ tt, lit< tt))
+  | inr other ↦ subst (λ (o : Option Node). IsHeld (fresh log_blocks 1 device_sectors).layout n o) (sym (at_other map.empty 2 (new_directory 493) n other ∙ map.get-empty nat_cmp n)) refl
 ]
 
-pub fresh_laid_out : (log_blocks : ℕ) → log_blocks ≤ 2048 → IsLaidOut (fresh log_blocks 1)
-fresh_laid_out log_blocks few = record {
-  nodes = held_fresh log_blocks;
+pub fresh_laid_out : (log_blocks device_sectors : ℕ) → log_blocks ≤ 2048 → 2 * (2 + log_blocks + 4096) ≤ device_sectors → IsLaidOut (fresh log_blocks 1 device_sectors)
+fresh_laid_out log_blocks device_sectors few room = record {
+  nodes = held_fresh log_blocks device_sectors;
   blocks = λ n. tt;
   once = λ n m b has other. absurd (cc);
   not_pending = λ n b has. refl;
@@ -268,6 +268,7 @@ fresh_laid_out log_blocks few = record {
   units_limit = lit≤ tt;
   log_blocks = few;
   limit = lit≤ tt;
+  room = omega (arith, room);
   rest = refl;
 }
 

@@ -62,7 +62,7 @@ module _ (l : Layout) (place t at : ℕ) (ne : at ≢ t) where
       either_first (n == at) (n == t) blocks [] (l.directories n) (λ one two. ne (sym (eqb-true n at one) ∙ eqb-true n t two)) in
       let pending : (b : ℕ) → pended place (l.directories t) l.pending b ≡ pended place (cond (t == at) blocks (l.directories t)) l.pending b = λ b.
       ap (λ test. pended place (cond test blocks (l.directories t)) l.pending b) (sym (ne_eqb t at (λ e. ne (sym e)))) in
-      λ i. record { log_blocks = l.log_blocks; units = l.units; directory_limit = l.directory_limit; directories = λ n. directories n i; pending = λ b. pending b i }
+      λ i. record { log_blocks = l.log_blocks; units = l.units; device_sectors = l.device_sectors; directory_limit = l.directory_limit; directories = λ n. directories n i; pending = λ b. pending b i }
 
   freed_blocks : blocks_at (freed l place t) at ≡ blocks_at l at
   freed_blocks = ap (λ test. cond test [] (l.directories at)) (ne_eqb at t ne)

@@ -56,7 +56,7 @@ impl Meta {
     /// The metadata of a new file system of one unit, whose root is empty.
     pub fn fresh(alloc: Global, log_blocks: u32) -> Result<Self, AllocError>
         requires { log_blocks ≤ 2048 }
-        ensures state { IfOk result (λ m. IsStateOf m (fresh log_blocks 1)) }
+        ensures state { IfOk result (λ m. (device_sectors : ℕ) → IsStateOf m (fresh log_blocks 1 device_sectors)) }
         ensures sound { IfOk result IsSound }
     {
         let mut inodes = InodeTable::new(alloc, UNITS)?;

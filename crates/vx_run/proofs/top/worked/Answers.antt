@@ -1,18 +1,19 @@
-use Rattle.std.proofs.Common.{◌≡◌, ℕ, ◌+◌, List, [], length, map, sym, ◌∙◌, subst, ap, not, refl, arith}
+use Rattle.std.proofs.Common.{◌≡◌, ℕ, ◌+◌, List, [], length, map, sym, ◌∙◌, subst, ap, not, refl, arith, false, lit≤}
 use Rattle.std.specs.Prelude.{All, IfSome}
 use Rattle.std.specs.String.{string_bytes}
 use Rattle.std.proofs.lemmas.List.Elements.{All-nil}
 use Rattle.vx_base.specs.declared.event.Event.{Event}
 use Rattle.vx_layout.specs.LogForms.{AfterImage}
-use Rattle.vx_log.specs.Logs.{LogView}
+use Rattle.vx_log.specs.Logs.{LogView, fresh_log}
 use Rattle.vx_log.specs.Moments.{Told, Always}
 use Rattle.vx_model.specs.Allowed.{come_by, IsAllowed}
 use Rattle.vx_model.specs.AllowedLaws.{IsPlaced}
 use Rattle.vx_model.specs.Legal.{after_all}
 use Rattle.vx_model.specs.State.{fresh}
 use Rattle.vx_run.specs.Cores.{beginning, IsEnded, is_unmounted, TellsFaults}
-use Rattle.vx_run.specs.Ends.{Setting}
-use Rattle.vx_kernel.specs.Journals.{new_log_blocks, IsKept}
+use Rattle.vx_run.specs.Ends.{Setting, opened_on}
+use Rattle.vx_kernel.specs.Journals.{IsKept}
+use Rattle.vx_kernel.specs.Sizes.{new_log_blocks, new_log_sectors, superblock_of}
 use Rattle.vx_model.specs.Replays.{IsLeft}
 use Rattle.vx_run.proofs.Ending.{none_of, some_of, none_or_some, enabled_tells}
 use Rattle.vx_run.proofs.Scripts.{ended_unasked, all_built, all_modes}
@@ -58,9 +59,10 @@ answer_all-requires-clause-core g c =
     let new = c.in-Ok-fresh.ensures in
     let core = c.in-Ok-fresh.core in
     let h = core.history.items in
-    let s = fresh new_log_blocks 1 in
+    let s = fresh new_log_blocks 1 c.sectors-have.result in
     let d = g.D.BlockDev.state c.format.new.dev in
-    let with_log = subst (λ (log : LogView). Told d (IsKept log [] s)) (sym new.log) c.in-Ok-format.ensures.kept in
+    let first = subst (λ (sectors : ℕ). Told d (IsKept (fresh_log new_log_sectors) [] (fresh new_log_blocks 1 sectors))) (sym c.sectors-have.ensures) c.in-Ok-format.ensures.kept in
+    let with_log = subst (λ (log : LogView). Told d (IsKept log [] s)) (sym new.log) first in
     let kept = subst (λ (homes : List AfterImage). Told d (IsKept core.journal.log homes s)) (sym new.homes) with_log in
     record {
       state = s;
@@ -70,7 +72,8 @@ answer_all-requires-clause-core g c =
         rest = λ _. new.rest;
         head = omega (arith, new.head);
         mounted = record {
-          laid_out = c.fresh_reads.ensures.laid_out new_log_blocks 1 (omega arith) (omega arith);
+          laid_out = c.fresh_reads.ensures.laid_out (superblock_of false) 1 c.sectors-have.result (record { log_low = lit≤ tt; log_high = lit≤ tt; units_low = lit≤ tt; units_high = lit≤ tt }) (lit≤ tt)
+              (omega (arith, c.if-have-lt-SECTORS.false));
           log_blocks = refl;
           units = refl;
         };
@@ -78,7 +81,7 @@ answer_all-requires-clause-core g c =
         placed = subst (λ (es : List Event). All (IsPlaced (length es)) es) (sym new.history) (All-nil (IsPlaced 0));
         pending = λ b q waits. absurd cc;
         live = live_formatted core.opened h s d.told core.disabled core.journal.log core.journal.homes new.enabled
-            (subst (λ (n : ℕ). IfSome d.told (λ t. length t.ops ≡ n)) (omega (arith, c.in-Ok-format.ensures.count, c.ops.ensures.number, new.opened)) (g.met.D.BlockDev.in_step c.format.new.dev))
+            (subst (λ (n : ℕ). IfSome d.told (λ t. length t.ops ≡ n)) (omega (arith, c.in-Ok-format.ensures.count, c.ops.ensures.number, ap (λ (o : Opened). o.operations) new.opened)) (g.met.D.BlockDev.in_step c.format.new.dev))
             kept;
       };
       meta = new.meta;
@@ -99,7 +102,8 @@ returns-clause-ended g c =
     let history = c.unmount.new.self.history.items in
     let before = (g.D.BlockDev.state c.args.dev.now).write_faults in
     let s : Setting = record { words = map string_bytes c.args.words.now; script = g.S.Source.left c.args.script.now; device = g.D.BlockDev.state c.args.dev.now; script_faults = g.S.Source.fault_count c.args.script.now } in
-    let opened : c.unmount.new.self.opened ≡ (g.D.BlockDev.state c.args.dev.now).count = c.unmount.ensures.opened ∙ c.answer_all.ensures.opened ∙ c.in-Ok-fresh.ensures.opened ∙ c.ops.ensures.number in
+    let opened : c.unmount.new.self.opened ≡ opened_on (g.D.BlockDev.state c.args.dev.now) =
+    c.unmount.ensures.opened ∙ c.answer_all.ensures.opened ∙ c.in-Ok-fresh.ensures.opened ∙ (λ i. record { operations = c.ops.ensures.number i; sectors = c.sectors-have.ensures i }) in
     let tells : TellsFaults before (g.D.BlockDev.state c.unmount.new.dev).write_faults c.unmount.new.self.disabled =
     c.unmount.ensures.faults before (c.answer_all.ensures.faults before (enabled_tells before _ _ c.in-Ok-fresh.ensures.enabled c.in-Ok-format.ensures.cause.fine)) in
     record {
@@ -115,7 +119,7 @@ returns-clause-ended g c =
       fine = λ off. tells.none (none_of c.unmount.new.self.disabled c.is_some.result c.is_some.ensures off);
       rose = λ on. tells.some (some_of c.unmount.new.self.disabled c.is_some.result c.is_some.ensures on);
       formatted = omega (arith, c.in-Ok-format.ensures.count, c.answer_all.ensures.onward.later, c.unmount.ensures.onward.later);
-      crash = subst (λ (o : ℕ). Told (g.D.BlockDev.state c.unmount.new.dev) (Always (o + 70) (IsAllowed (beginning o) history))) opened c.unmount.ensures.allowed;
-      clean = λ off. subst (λ (o : ℕ). Told (g.D.BlockDev.state c.unmount.new.dev) (IsLeft (after_all (beginning o) history).state.tree)) opened
+      crash = subst (λ (o : Opened). Told (g.D.BlockDev.state c.unmount.new.dev) (Always (o.operations + 70) (IsAllowed (beginning o) history))) opened c.unmount.ensures.allowed;
+      clean = λ off. subst (λ (o : Opened). Told (g.D.BlockDev.state c.unmount.new.dev) (IsLeft o.sectors (after_all (beginning o) history).state.tree)) opened
           (c.unmount.ensures.clean (none_of c.unmount.new.self.disabled c.is_some.result c.is_some.ensures off));
     }

@@ -55,11 +55,13 @@ returns-in-Ok-clause-clean g c = λ none.
     let d = g.D.BlockDev.state c.args.dev.now in
     let d2 = g.D.BlockDev.state c.unmount.new.dev in
     let s = c.requires.core.state in
-    let left : Told d2 (IsLeft s.tree) =
+    let left : Told d2 (IsLeft s.layout.device_sectors s.tree) =
     c.in-Ok.ensures.clean s c.requires.core.base.mounted (kept_live core.opened core.history.items s d.told core.disabled core.journal.log core.journal.homes none c.requires.core.base.live) in
     let last = ap (λ (es : List Event). (after_all (beginning core.opened) es).state) c.push_reserved.ensures.items
     ∙ state_unmounted c.allowed_laws.ensures core.opened core.history.items s d.count c.requires.core.base.run.state_is c.requires.core.base.placed c.requires.core.base.come c.ops-at.result in
-    subst (λ (x : State). Told d2 (IsLeft x.tree)) (sym last) left
+    let device = c.allowed_laws.ensures.device (beginning core.opened) c.push_reserved.new.self.items in
+    subst (λ (n : ℕ). Told d2 (IsLeft n (after_all (beginning core.opened) c.push_reserved.new.self.items).state.tree)) device
+    (subst (λ (x : State). Told d2 (IsLeft x.layout.device_sectors x.tree)) (sym last) left)
 
 pub returns-in-Err-clause-allowed : goal.returns-in-Err-clause-allowed
 returns-in-Err-clause-allowed g c =

@@ -1,4 +1,4 @@
-use Rattle.std.proofs.Common.{rules, ◌≡◌, ℕ, refl, sym, ◌∙◌, ap, ◌+◌, List, Option, Some, None, ◌++◌, ◌∷◌, []}
+use Rattle.std.proofs.Common.{rules, ◌≡◌, ℕ, refl, sym, ◌∙◌, ap, ◌+◌, ◌*◌, arith, List, Option, Some, None, ◌++◌, ◌∷◌, []}
 use Rattle.std.specs.FinMap as map
 use Rattle.std.specs.Ordering.{nat_cmp}
 use Rattle.vx_alloc.specs.FreeMaps.{all_free}
@@ -17,8 +17,8 @@ pub put-requires-clause-unused : goal.put-requires-clause-unused
 put-requires-clause-unused c = ap (λ (t : Table). inode_at t c.new-2.result) c.in_ok-inodes.ensures ∙ map.get-empty nat_cmp c.new-2.result
 
 pub returns-clause-state : goal.returns-clause-state
-returns-clause-state c =
-    fresh_is _ c.args.log_blocks
+returns-clause-state c = λ device_sectors.
+    fresh_is _ c.args.log_blocks device_sectors
     (c.in_ok-put.ensures.ok ∙ ap (λ (t : Table). with_inode t c.new-2.result c.root.result) c.in_ok-inodes.ensures
     ∙ ap (λ (n : ℕ). with_inode (record { units = 1; inodes = map.empty }) n c.root.result) c.new-2.ensures ∙ ap (λ (i : Inode). with_inode (record { units = 1; inodes = map.empty }) 2 i) c.root.ensures)
     (c.in_ok-push-3.ensures.items
@@ -30,4 +30,6 @@ returns-clause-state c =
     c.new-first.ensures
 
 pub returns-clause-sound : goal.returns-clause-sound
-returns-clause-sound c = record { state = fresh c.args.log_blocks 1; stands = record { laid_out = fresh_laid_out c.args.log_blocks c.requires; is = returns-clause-state c } }
+returns-clause-sound c =
+    let sectors : ℕ = 2 * (2 + c.args.log_blocks + 4096) in
+    record { state = fresh c.args.log_blocks 1 sectors; stands = record { laid_out = fresh_laid_out c.args.log_blocks sectors c.requires (omega arith); is = returns-clause-state c sectors } }
