@@ -4,7 +4,7 @@ ghost use Rattle.vx_base.specs.Faults.{HasCause};
 ghost use Rattle.vx_base.specs.declared.event.Event.TheVariants as event;
 ghost use Rattle.vx_base.specs.declared.call.Call.{Call};
 ghost use Rattle.vx_model.specs.Step.{has_step};
-ghost use Rattle.vx_model.specs.Legal.{is_fault, is_no_space};
+ghost use Rattle.vx_model.specs.Legal.{tells_failed_write, is_no_space};
 ghost use Rattle.vx_model.specs.Allowed.{is_refusal};
 ghost use Rattle.vx_model.specs.State.{State};
 ghost use Rattle.vx_model.specs.Touching.{untouched};
@@ -249,7 +249,7 @@ impl Core {
         requires limit { self.old.journal.log.head + 17 ≤ 2 ^ 62 }
         ensures rest { self.new.disabled ≡ None → IsAtRest self.new.journal }
         ensures head { self.new.journal.log.head ≤ self.old.journal.log.head + 17 }
-        ensures answer { (result ≡ answer) ⊎ (is_fault result ≡ true) }
+        ensures answer { (result ≡ answer) ⊎ (tells_failed_write result ≡ true) }
         ensures fits { FitsDevice self.old.disabled self.new.disabled (D.state dev.new) answer result }
         ensures untouched { (self.old.touched ≡ untouched) ⊎ IsSome self.old.disabled → IsUntouched (D.state dev.old) (D.state dev.new) self.old self.new answer result }
         ensures carried { (s new : State) → self.old.touched ≢ untouched → self.old.disabled ≡ None → IsMounted s → IsMounted new → IsStateOf self.old.meta new → IsTouched s new self.old.touched

@@ -2,7 +2,7 @@ use Rattle.std.proofs.Common.{◌≡◌, ◌⊎◌, ◌+◌, ℕ, ◌++◌, ◌�
 use Rattle.vx_base.specs.declared.event.Event.{Event}
 use Rattle.vx_base.specs.declared.event.Event.TheVariants as event
 use Rattle.vx_base.specs.declared.reply.Reply.{Reply}
-use Rattle.vx_model.specs.Legal.{is_fault}
+use Rattle.vx_model.specs.Legal.{tells_failed_write}
 use Rattle.vx_model.specs.Waiting.{Waits}
 use Rattle.vx_run.specs.Cores.{IsUntouched, IsCarried, releases, released_by}
 use Rattle.vx_run.specs.Faults.{FitsDevice}
@@ -53,7 +53,7 @@ returns-clause-core g c =
           _ is c.push_reserved.ensures.items
           (c.push_reserved-2.ensures.items ∙ ap (λ (n : ℕ). after.history.items ++ event.Ret c.ops-at-2.result n answer ∷ []) place)
           c.durable-answer.ensures.opened refl refl c.durable-answer.ensures.rest c.durable-answer.ensures.head
-          (subst (λ (r : Reply). (answer ≡ r) ⊎ (is_fault answer ≡ true)) c.requires.copy c.durable-answer.ensures.answer);
+          (subst (λ (r : Reply). (answer ≡ r) ⊎ (tells_failed_write answer ≡ true)) c.requires.copy c.durable-answer.ensures.answer);
       meta = is.meta;
       touched = c.clear.ensures;
     }
