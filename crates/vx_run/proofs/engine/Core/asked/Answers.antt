@@ -17,7 +17,7 @@ returns-then-not-is_no_space-clause-asked g c =
     asked_of (g.D.BlockDev.state c.args.dev.now) c.args.self.now c.replies-reply.new.self is.state c.args.call.now c.replies-reply.result.0 is.base c.replies-reply.ensures.same done c.replies-reply.ensures.disabled
     (λ short. elim c.then-not-is_no_space.branch [
       | then-not-is_no_space-via-then-not-is_no_space w ↦ absurd (let wrong : false ≡ true = w.if-not-is_no_space.ensures ∙ short in cc)
-      | then-not-is_no_space-via-else-not-is_no_space+then-not-has_pending w ↦ none_waited (length c.args.self.now.history.items) is.state done.new done.waits (w.has_pending.ensures done.new done.meta w.if-not-has_pending.true)
+      | then-not-is_no_space-via-else-not-is_no_space+then-not-has_pending w ↦ none_waited (length c.args.self.now.history.items) is.state done.new done.waits (w.has_pending.ensures.none done.new done.meta w.if-not-has_pending.true)
     ])
 
 pub returns-then-not-is_no_space-clause-order : goal.returns-then-not-is_no_space-clause-order
