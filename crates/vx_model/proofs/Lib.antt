@@ -21,9 +21,12 @@ pub mod Replies
 pub mod Lookups
 pub mod Successes
 pub mod NameChanges
+pub mod LinkChanges
+pub mod Telling
 pub mod Counting
 pub mod Histories
 pub mod LinkNumbers
 pub mod Walking
 pub mod Loops
+pub mod IntoItself
 pub mod SameReading

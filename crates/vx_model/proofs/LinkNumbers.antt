@@ -28,7 +28,7 @@ use Rattle.vx_model.proofs.Histories.{settled_keeps, kept_all}
 use Rattle.vx_model.proofs.Replies.{stat_leaves, list_leaves}
 use Rattle.vx_model.proofs.Lookups.{node_gone, node_stays}
 use Rattle.vx_model.proofs.Successes.{adds, Makes, makes, unlinks, removes_directory, Links, links, modes, Onto, nothing, itself, directory, file, renames}
-use Rattle.vx_model.proofs.NameChanges.{same_directory, named_directory, file_leaf, empty_leaf, not_leaf, removed_nodes, remove_stays, unlinked_touches, drop_touches, entered, clears_nothing, clears_target, target_means}
+use Rattle.vx_model.proofs.NameChanges.{same_directory, named_directory, file_leaf, empty_leaf, not_leaf, removed_nodes, remove_stays, unlinked_touches, unlinked_left, drop_touches, entered, clears_nothing, clears_target, target_means}
 use Rattle.vx_model.proofs.Counting.{one, one_same, empty_counts, no_names, Owes, takes, puts, Relinked, relinks, loses, gains}
 
 abbrev no_more : ℕ → ℕ
@@ -225,12 +225,12 @@ module _ (s : State) (o : Owes s.tree.nodes (128 * s.layout.units) no_more) wher
     onto_owes (directory target d moved ne onto node there empty h) =
         let leaf = empty_leaf s.tree.nodes target d there empty in
         let less : State = drop_node (cleared s m) place target in
-        enter_owes less m done bound no_more h (clears_target s m means target onto ne leaf less.tree.nodes (drop_touches (cleared s m).tree.nodes target)).free
+        enter_owes less m done bound no_more h (clears_target s m means target onto ne leaf less.tree.nodes (drop_touches (cleared s m).tree.nodes target) (IsDirectory d) there (node_gone (cleared s m).tree.nodes target)).free
         (drop_owes (cleared s m) place target d bound (λ i. one m.from.ino i + no_more i) (cleared_stays target ne onto leaf ∙ there) empty (cleared_owes target ne onto leaf))
     onto_owes (file target f moved ne onto node there h) =
         let leaf = file_leaf s.tree.nodes target f there in
         let less : State = unlinked (cleared s m) place target f in
-        enter_owes less m done bound no_more h (clears_target s m means target onto ne leaf less.tree.nodes (unlinked_touches (cleared s m) place target f)).free
+        enter_owes less m done bound no_more h (clears_target s m means target onto ne leaf less.tree.nodes (unlinked_touches (cleared s m) place target f) (IsFile f) there (unlinked_left (cleared s m) place target f)).free
         (unlinked_owes (cleared s m) place target f bound (λ i. one m.from.ino i + no_more i) (cleared_stays target ne onto leaf ∙ there) (cleared_owes target ne onto leaf))
 
   rename_owes : (place : ℕ) (old new : List ℕ) (done : Done) → rename s place old new ≡ Ok done → Owes done.state.tree.nodes bound no_more

@@ -13,7 +13,7 @@ use Rattle.vx_base.specs.declared.refusal.Refusal.TheVariants as no
 use Rattle.vx_base.specs.declared.reply.Reply.{Reply}
 use Rattle.vx_base.specs.declared.reply.Reply.TheVariants as say
 use Rattle.vx_model.specs.Outcome.{Maybe, ◌>>=◌, need}
-use Rattle.vx_model.specs.Tree.{Nodes, Node, File, Directory, IsFile, IsDirectory, lowest_unused, new_file, new_directory}
+use Rattle.vx_model.specs.Tree.{Nodes, Entries, Node, File, Directory, IsFile, IsDirectory, lowest_unused, new_file, new_directory}
 use Rattle.vx_model.specs.State.{State, Done, settled}
 use Rattle.vx_model.specs.Walks.{root, walk, inode_of}
 use Rattle.vx_model.specs.Edits.{with_name, without_name, add_name, remove_name, remove_name_in, set_node, drop_node}
@@ -21,7 +21,7 @@ use Rattle.vx_model.specs.Making.{create, mkdir}
 use Rattle.vx_model.specs.Removing.{fine, unlinked, unlink, rmdir}
 use Rattle.vx_model.specs.Moving.{Move, enter, cleared, rename}
 use Rattle.vx_model.specs.Step.{step}
-use Rattle.vx_model.specs.NameLaws.{meaning_in, lookup, IsOther, LeadsTo, IsCreated, IsRemoved, IsRenamed}
+use Rattle.vx_model.specs.NameLaws.{meaning_in, lookup, IsOther, LeadsTo, IsCreated, with_name_less, StaysDirectory, IsRemoved, IsRenamed}
 use Rattle.vx_model.proofs.Unused.{unused_free}
 use Rattle.vx_model.proofs.Chains.{bind_ok}
 use Rattle.vx_model.proofs.Lookups.{node_gone, node_stays, cases_entry, IsNamed, IsUnnamed, MeanSame, put_named, take_unnamed, at_directory, step_in, walk_on, walk_more, walk_less, inode_at}
@@ -93,11 +93,36 @@ unlinked_by b place ino f false = set_touches b.tree.nodes ino (IsFile (record f
 pub unlinked_touches : (b : State) (place ino : ℕ) (f : File) → Touches b.tree.nodes (unlinked b place ino f).tree.nodes ino
 unlinked_touches b place ino f = unlinked_by b place ino f (nat_le f.nlink 1)
 
+left_by : (b : State) (place ino : ℕ) (f : File) (t : Bool)
+    → map.get (cond t (drop_node b place ino) (set_node b ino (IsFile (record f { nlink = f.nlink - 1 })))).tree.nodes ino ≡ cond t None (Some (IsFile (record f { nlink = f.nlink - 1 })))
+left_by b place ino f true = node_gone b.tree.nodes ino
+left_by b place ino f false = at_key b.tree.nodes ino (IsFile (record f { nlink = f.nlink - 1 }))
+
+-- what an unlink leaves of the file
+pub unlinked_left : (b : State) (place ino : ℕ) (f : File) → map.get (unlinked b place ino f).tree.nodes ino ≡ with_name_less (IsFile f)
+unlinked_left b place ino f = left_by b place ino f (nat_le f.nlink 1)
+
 pub touches_same : (old new : Nodes) (ino : ℕ) → IsLeaf old ino → Touches old new ino → MeanSame old new
 touches_same old new ino leaf t q x =
     elim (cases_eq q ino) [
       | inl e ↦ ap (λ (k : ℕ). lookup new k x) e ∙ t.leaf x ∙ sym (leaf x) ∙ sym (ap (λ (k : ℕ). lookup old k x) e)
       | inr ne ↦ ap (meaning_in x) (t.others q ne)
+    ]
+
+-- ---- directories
+
+keeps_then : (a b c : Nodes) (n : ℕ) → StaysDirectory a b n → StaysDirectory b c n → StaysDirectory a c n
+keeps_then a b c n first second d is = let p = first d is in let q = second p.0 p.1 in (q.0, q.1, q.2 ∙ p.2)
+
+keeps_same : (a b : Nodes) (n : ℕ) → map.get b n ≡ map.get a n → StaysDirectory a b n
+keeps_same a b n same d is = (d, same ∙ is, refl)
+
+keeps_put : (nodes : Nodes) (at : ℕ) (d : Directory) (entries : Entries) → map.get nodes at ≡ Some (IsDirectory d) → (n : ℕ) → StaysDirectory nodes (map.insert nodes at (IsDirectory (record d { entries = entries }))) n
+keeps_put nodes at d entries there n e is =
+    let put : Directory = record d { entries = entries } in
+    elim (cases_eq n at) [
+      | inl here ↦ (put, ap (map.get (map.insert nodes at (IsDirectory put))) here ∙ at_key nodes at (IsDirectory put), ap (λ (x : Directory). x.mode) (same_directory (map.get nodes n) d e (ap (map.get nodes) here ∙ there) is))
+      | inr other ↦ (e, at_other nodes at (IsDirectory put) n other ∙ is, refl)
     ]
 
 -- ---- a name less
@@ -113,6 +138,11 @@ remove_stays s at name ino k means ne =
     let d = named_directory name ino (map.get s.tree.nodes at) means in
     ap (λ (ns : Nodes). map.get ns k) (removed_nodes s at name d.0 d.1) ∙ at_other s.tree.nodes at (without_name d.0 name) k ne
 
+removed_keeps : (s : State) (at : ℕ) (name : FileName) (ino : ℕ) → lookup s.tree.nodes at name ≡ Some ino → (n : ℕ) → StaysDirectory s.tree.nodes (remove_name s at name).tree.nodes n
+removed_keeps s at name ino means n =
+    let d = named_directory name ino (map.get s.tree.nodes at) means in
+    subst (λ (ns : Nodes). StaysDirectory s.tree.nodes ns n) (sym (removed_nodes s at name d.0 d.1)) (keeps_put s.tree.nodes at d.0 (map.remove d.0.entries name) d.1 n)
+
 -- what leads nowhere leads nowhere without a name
 pub unnamed_leaf : (old new : Nodes) (at : ℕ) (name : FileName) (ino : ℕ) → IsUnnamed old new at name → IsLeaf old ino → IsLeaf new ino
 unnamed_leaf old new at name ino u leaf x =
@@ -127,8 +157,9 @@ walk_absent nodes at name d there none =
     ap (λ o. step_in name o >>= (λ next. walk nodes next [])) there ∙ ap (λ o. need o no.NoEnt >>= (λ next. walk nodes next [])) absent
 
 module _ (s : State) (path : List ℕ) (at : ℕ) (name : FileName) (ino : ℕ) (leads : LeadsTo s.tree.nodes path at name) (means : lookup s.tree.nodes at name ≡ Some ino) (leaf : IsLeaf s.tree.nodes ino) where
-  gone_with : (d : Directory) → map.get s.tree.nodes at ≡ Some (IsDirectory d) → (new : Nodes) → Touches (remove_name s at name).tree.nodes new ino → IsRemoved s.tree.nodes new path
-  gone_with d there new t =
+  gone_with : (d : Directory) → map.get s.tree.nodes at ≡ Some (IsDirectory d) → (new : Nodes) → Touches (remove_name s at name).tree.nodes new ino → (node : Node) → map.get s.tree.nodes ino ≡ Some node
+      → map.get new ino ≡ with_name_less node → IsRemoved s.tree.nodes new path
+  gone_with d there new t node was left =
       let old : Nodes = s.tree.nodes in
       let less : Nodes = (remove_name s at name).tree.nodes in
       let u = removed_unnamed s at name d there in
@@ -143,6 +174,12 @@ module _ (s : State) (path : List ℕ) (at : ℕ) (name : FileName) (ino : ℕ) 
         ino = ino;
         leads = leads;
         meant = means;
+        directory = d;
+        was = there;
+        parent_is = still;
+        node = node;
+        node_was = was;
+        node_is = left;
         nothing = inode_at old new path at name leads (walk_less old new at name ino means leaf others root leads.above at apart leads.walked)
             ∙ walk_absent new at name (record d { entries = map.remove d.entries name }) still (same at name ∙ u.here);
         gone = same at name ∙ u.here;
@@ -150,7 +187,7 @@ module _ (s : State) (path : List ℕ) (at : ℕ) (name : FileName) (ino : ℕ) 
         others = others;
       }
 
-  pub gone : (new : Nodes) → Touches (remove_name s at name).tree.nodes new ino → IsRemoved s.tree.nodes new path
+  pub gone : (new : Nodes) → Touches (remove_name s at name).tree.nodes new ino → (node : Node) → map.get s.tree.nodes ino ≡ Some node → map.get new ino ≡ with_name_less node → IsRemoved s.tree.nodes new path
   gone new t = let d = named_directory name ino (map.get s.tree.nodes at) means in gone_with d.0 d.1 new t
 
 pub unlinked_removes : (s : State) (place : ℕ) (path : List ℕ) (done : Done) → unlink s place path ≡ Ok done → IsRemoved s.tree.nodes done.state.tree.nodes path
@@ -159,7 +196,7 @@ unlinked_removes s place path done h =
     let b : State = remove_name s u.entry.at u.entry.name in
     subst (λ (x : Done). IsRemoved s.tree.nodes x.state.tree.nodes path) (sym u.is)
     (gone s path u.entry.at u.entry.name u.entry.ino u.enters.leads u.enters.means (file_leaf s.tree.nodes u.entry.ino u.file u.there)
-    (unlinked b place u.entry.ino u.file).tree.nodes (unlinked_touches b place u.entry.ino u.file))
+    (unlinked b place u.entry.ino u.file).tree.nodes (unlinked_touches b place u.entry.ino u.file) (IsFile u.file) u.there (unlinked_left b place u.entry.ino u.file))
 
 pub unlink_removes : (s : State) (place session : ℕ) (path : List ℕ) (done : Done) → step s place session (call.Unlink path) ≡ Some done → done.reply ≡ say.Fine → IsRemoved s.tree.nodes done.state.tree.nodes path
 unlink_removes s place session path done h reply = unlinked_removes s place path done (succeeded s (unlink s place path) done h (not_fine done.reply reply))
@@ -170,7 +207,7 @@ directory_removes s place path done h =
     let b : State = remove_name s u.entry.at u.entry.name in
     subst (λ (x : Done). IsRemoved s.tree.nodes x.state.tree.nodes path) (sym u.is)
     (gone s path u.entry.at u.entry.name u.entry.ino u.enters.leads u.enters.means (empty_leaf s.tree.nodes u.entry.ino u.directory u.there u.empty)
-    (drop_node b place u.entry.ino).tree.nodes (drop_touches b.tree.nodes u.entry.ino))
+    (drop_node b place u.entry.ino).tree.nodes (drop_touches b.tree.nodes u.entry.ino) (IsDirectory u.directory) u.there (node_gone b.tree.nodes u.entry.ino))
 
 pub rmdir_removes : (s : State) (place session : ℕ) (path : List ℕ) (done : Done) → step s place session (call.Rmdir path) ≡ Some done → done.reply ≡ say.Fine → IsRemoved s.tree.nodes done.state.tree.nodes path
 rmdir_removes s place session path done h reply = directory_removes s place path done (succeeded s (rmdir s place path) done h (not_fine done.reply reply))
@@ -186,6 +223,11 @@ pub added_stays : (s new : State) (at ino : ℕ) (name : FileName) (n : ℕ) →
 added_stays s new at ino name n h ne =
     let a = adds s at name ino new h in
     ap (λ (ns : Nodes). map.get ns n) a.nodes ∙ at_other s.tree.nodes at (with_name a.directory name ino) n ne
+
+added_keeps : (s new : State) (at ino : ℕ) (name : FileName) → add_name s at name ino ≡ Ok new → (n : ℕ) → StaysDirectory s.tree.nodes new.tree.nodes n
+added_keeps s new at ino name h n =
+    let a = adds s at name ino new h in
+    subst (λ (ns : Nodes). StaysDirectory s.tree.nodes ns n) (sym a.nodes) (keeps_put s.tree.nodes at a.directory (map.insert a.directory.entries name ino) a.there n)
 
 pub blank_file : (mode : ℕ) (x : FileName) → meaning_in x (Some (new_file mode)) ≡ None
 blank_file mode x = refl
@@ -263,6 +305,8 @@ pub record Clears (old less : Nodes) (m : Move) : Type 0 where
   pub free : lookup less m.to m.name ≡ None
   pub others : (q : ℕ) (x : FileName) → IsOther m.from.at m.from.name q x → IsOther m.to m.name q x → lookup less q x ≡ lookup old q x
   pub nodes : (n : ℕ) → n ≢ m.from.at → n ≢ m.to → lookup old m.to m.name ≢ Some n → map.get less n ≡ map.get old n
+  pub directories : (n : ℕ) → lookup old m.to m.name ≢ Some n → StaysDirectory old less n
+  pub replaced : (n : ℕ) (node : Node) → lookup old m.to m.name ≡ Some n → map.get old n ≡ Some node → (n ≢ m.to) × (map.get less n ≡ with_name_less node)
 
 module _ (s : State) (m : Move) (means : lookup s.tree.nodes m.from.at m.from.name ≡ Some m.from.ino) where
   -- the state without the old name
@@ -286,6 +330,8 @@ module _ (s : State) (m : Move) (means : lookup s.tree.nodes m.from.at m.from.na
         free = u.others m.to m.name (λ at name. other (sym at) (sym name)) ∙ none;
         others = λ q x away toward. u.others q x away;
         nodes = λ n away toward other. remove_stays s m.from.at m.from.name m.from.ino n means away;
+        directories = λ n other_one. removed_keeps s m.from.at m.from.name m.from.ino means n;
+        replaced = λ n node onto is. absurd (let c : None ≡ Some n = sym none ∙ onto in cc);
       }
 
   module _ (target : ℕ) (onto : lookup s.tree.nodes m.to m.name ≡ Some target) (ne : target ≢ m.from.ino) (leaf : IsLeaf s.tree.nodes target) where
@@ -304,8 +350,8 @@ module _ (s : State) (m : Move) (means : lookup s.tree.nodes m.from.at m.from.na
     cleared_leaf =
         unnamed_leaf taken.tree.nodes (cleared s m).tree.nodes m.to m.name target target_unnamed (unnamed_leaf s.tree.nodes taken.tree.nodes m.from.at m.from.name target taken_unnamed leaf)
 
-    pub clears_target : (less : Nodes) → Touches (cleared s m).tree.nodes less target → Clears s.tree.nodes less m
-    clears_target less t =
+    pub clears_target : (less : Nodes) → Touches (cleared s m).tree.nodes less target → (node : Node) → map.get s.tree.nodes target ≡ Some node → map.get less target ≡ with_name_less node → Clears s.tree.nodes less m
+    clears_target less t node was left =
         let u = taken_unnamed in
         let v = target_unnamed in
         let same = touches_same (cleared s m).tree.nodes less target cleared_leaf t in
@@ -315,6 +361,17 @@ module _ (s : State) (m : Move) (means : lookup s.tree.nodes m.from.at m.from.na
           others = λ q x away toward. same q x ∙ v.others q x toward ∙ u.others q x away;
           nodes = λ n away toward other. t.others n (λ e. other (onto ∙ ap Some (sym e))) ∙ remove_stays taken m.to m.name target n target_means toward
               ∙ remove_stays s m.from.at m.from.name m.from.ino n means away;
+          directories = λ n other. keeps_then s.tree.nodes taken.tree.nodes less n (removed_keeps s m.from.at m.from.name m.from.ino means n)
+              (keeps_then taken.tree.nodes (cleared s m).tree.nodes less n (removed_keeps taken m.to m.name target target_means n)
+              (keeps_same (cleared s m).tree.nodes less n (t.others n (λ e. other (onto ∙ ap Some (sym e))))));
+          replaced = λ n k on is.
+              let e : Some target ≡ Some n = sym onto ∙ on in
+              let same : target ≡ n = cc in
+              let nodes : Some node ≡ Some k = sym was ∙ ap (map.get s.tree.nodes) same ∙ is in
+              let equal : node ≡ k = cc in (
+                λ here. not_leaf s.tree.nodes m.to m.name target target onto leaf (same ∙ here),
+                ap (map.get less) (sym same) ∙ left ∙ ap with_name_less equal,
+              );
         }
 
 module _ (s : State) (place : ℕ) (old new : List ℕ) where
@@ -337,14 +394,16 @@ module _ (s : State) (place : ℕ) (old new : List ℕ) where
   clearing m done means (itself onto is) = inr (onto, is)
   clearing m done means (directory target d moved ne onto node there empty h) = inl (record {
     less = drop_node (cleared s m) place target;
-    clears = clears_target s m means target onto ne (empty_leaf s.tree.nodes target d there empty) (drop_node (cleared s m) place target).tree.nodes (drop_touches (cleared s m).tree.nodes target);
+    clears = clears_target s m means target onto ne (empty_leaf s.tree.nodes target d there empty) (drop_node (cleared s m) place target).tree.nodes (drop_touches (cleared s m).tree.nodes target) (IsDirectory d) there
+        (node_gone (cleared s m).tree.nodes target);
     entering = h;
     other = apart_names s m means (Some target) onto (λ e. ne cc);
     apart = λ e. (let c : Some target ≡ Some m.from.ino = sym onto ∙ e in ne cc);
   })
   clearing m done means (file target f moved ne onto node there h) = inl (record {
     less = unlinked (cleared s m) place target f;
-    clears = clears_target s m means target onto ne (file_leaf s.tree.nodes target f there) (unlinked (cleared s m) place target f).tree.nodes (unlinked_touches (cleared s m) place target f);
+    clears = clears_target s m means target onto ne (file_leaf s.tree.nodes target f there) (unlinked (cleared s m) place target f).tree.nodes (unlinked_touches (cleared s m) place target f) (IsFile f) there
+        (unlinked_left (cleared s m) place target f);
     entering = h;
     other = apart_names s m means (Some target) onto (λ e. ne cc);
     apart = λ e. (let c : Some target ≡ Some m.from.ino = sym onto ∙ e in ne cc);
@@ -368,6 +427,8 @@ module _ (s : State) (place : ℕ) (old new : List ℕ) where
         gone = named.others m.from.at m.from.name c.other ∙ c.clears.gone;
         others = λ q x away toward. named.others q x toward ∙ c.clears.others q x away toward;
         nodes = λ n away toward other. added_stays c.less e.0 m.to m.from.ino m.name n e.1 toward ∙ c.clears.nodes n away toward other;
+        directories = λ n other. keeps_then s.tree.nodes c.less.tree.nodes e.0.tree.nodes n (c.clears.directories n other) (added_keeps c.less e.0 m.to m.from.ino m.name e.1 n);
+        replaced = λ n node onto is. let p = c.clears.replaced n node onto is in added_stays c.less e.0 m.to m.from.ino m.name n e.1 p.0 ∙ p.1;
       })
 
   old_inode : (done : Done) (r : Renames s place old new done) → inode_of s.tree.nodes old ≡ Ok r.move.from.ino

@@ -17,7 +17,7 @@ use Rattle.vx_model.specs.Step.{step}
 use Rattle.vx_model.proofs.Chains.{Always, bind_always, where_holds}
 
 -- an answer that is no refusal
-abbrev Answers : Done → Type 0
+abbrev pub Answers : Done → Type 0
 Answers done = (why : Refusal) → done.reply ≡ say.Refused why → ⊥
 
 fine_answers : (s : State) → Answers (fine s)
@@ -67,7 +67,7 @@ module _ (s : State) (place : ℕ) where
   link_answers : (old new : List ℕ) → Always (link s old new) Answers
   link_answers old new = search (bind_always, where_holds, fine_answers) depth 16
 
-  rename_answers : (old new : List ℕ) → Always (rename s place old new) Answers
+  pub rename_answers : (old new : List ℕ) → Always (rename s place old new) Answers
   rename_answers old new = search (bind_always, where_holds, onto_answers) depth 16
 
   chmod_answers : (path : List ℕ) (mode : ℕ) → Always (chmod s path mode) Answers

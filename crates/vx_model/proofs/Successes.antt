@@ -220,13 +220,14 @@ links s old new done h =
 
 -- ---- chmod
 
-pub record Modes (s : State) (mode : ℕ) (done : Done) : Type 0 where
+pub record Modes (s : State) (path : List ℕ) (mode : ℕ) (done : Done) : Type 0 where
   pub ino : ℕ
   pub node : Node
+  pub walked : inode_of s.tree.nodes path ≡ Ok ino
   pub there : map.get s.tree.nodes ino ≡ Some node
   pub is : done ≡ fine (set_node s ino (with_mode mode node))
 
-pub modes : (s : State) (path : List ℕ) (mode : ℕ) (done : Done) → chmod s path mode ≡ Ok done → Modes s mode done
+pub modes : (s : State) (path : List ℕ) (mode : ℕ) (done : Done) → chmod s path mode ≡ Ok done → Modes s path mode done
 modes s path mode done h =
     let names = bind_ok (names_of path) (chmod_along s mode) done h in
     let ino = bind_ok (walk s.tree.nodes root names.0) (chmod_at s mode) done names.2 in
@@ -234,6 +235,7 @@ modes s path mode done h =
     record {
       ino = ino.0;
       node = node.0;
+      walked = ap (λ m. m >>= walk s.tree.nodes root) names.1 ∙ ino.1;
       there = need_ok (map.get s.tree.nodes ino.0) no.NoEnt node.0 node.1;
       is = is_ok (fine (set_node s ino.0 (with_mode mode node.0))) done node.2;
     }

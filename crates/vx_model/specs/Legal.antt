@@ -32,7 +32,7 @@ pub record World : Type 0 where
 abbrev pub opening : ℕ → State → World
 opening at s = record { at = at; next = 0; state = s; waiting = map.empty; unmounted = false }
 
--- a refusal that may come in place of any reply
+-- a refusal that may come in place of any reply of a Do
 abbrev pub is_any_time : Refusal → Bool
 is_any_time no.NoMemory = true
 is_any_time no.ReadFault = true
@@ -43,6 +43,16 @@ is_any_time _ = false
 abbrev pub is_fault : Reply → Bool
 is_fault (say.Refused why) = is_any_time why
 is_fault _ = false
+
+-- a refusal that a failed write or barrier has caused, in this call or an earlier one
+abbrev pub is_failed_write : Refusal → Bool
+is_failed_write no.WriteFault = true
+is_failed_write (no.Disabled faults) = true
+is_failed_write _ = false
+
+abbrev pub tells_failed_write : Reply → Bool
+tells_failed_write (say.Refused why) = is_failed_write why
+tells_failed_write _ = false
 
 -- a call is refused for want of blocks only where none waits to be free
 abbrev pub is_no_space : Reply → Bool
@@ -63,10 +73,11 @@ pub record DoAllowed (w : World) (session line : ℕ) (c : Call) (reply : Reply)
   pub reply_is : IfThere (step w.state w.next session c) (λ done. (reply ≡ done.reply) ⊎ (is_fault reply ≡ true))
   pub all_released : is_no_space reply ≡ true → (b : ℕ) → w.state.layout.pending b ≡ None
 
--- the answer of a call is the reply of its Do, or a device fault
+-- The answer of a call is the reply of its Do, or that a write has failed. Want of memory and a failed read are replies of a Do
+-- alone: a call that was done is not refused for them afterwards.
 abbrev pub RetAllowed : Option Waiting → Reply → Type 0
 RetAllowed None answer = ⊥
-RetAllowed (Some v) answer = (answer ≡ v.reply) ⊎ (is_fault answer ≡ true)
+RetAllowed (Some v) answer = (answer ≡ v.reply) ⊎ (tells_failed_write answer ≡ true)
 
 -- the number of device operations at an event
 abbrev pub at_of : Event → ℕ

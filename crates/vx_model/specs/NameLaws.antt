@@ -1,11 +1,12 @@
 -- What names mean, and what calls do to them.
-use Rattle.std.specs.Prelude.{◌≡◌, ◌≢◌, ℕ, zero, suc, ◌+◌, ◌*◌, ◌<◌, ◌==◌, List, [], ◌∷◌, ◌++◌, Option, Some, None, Ok, Err, if◌then◌else◌}
+use Rattle.std.specs.Prelude.{◌≡◌, ◌≢◌, ℕ, zero, suc, ◌+◌, ◌-◌, ◌*◌, ◌<◌, ◌==◌, nat_le, List, [], ◌∷◌, ◌++◌, Option, Some, None, Ok, Err, if◌then◌else◌}
 use Rattle.std.specs.List.{count_by}
 use Rattle.std.specs.FinMap as map
 use Rattle.vx_base.specs.declared.refusal.Refusal.TheVariants as no
 use Rattle.vx_base.specs.Paths.{FileName, split}
-use Rattle.vx_model.specs.Tree.{Nodes, Node, Directory, IsFile, IsDirectory}
+use Rattle.vx_model.specs.Tree.{Nodes, Node, File, Directory, IsFile, IsDirectory}
 use Rattle.vx_model.specs.State.{State}
+use Rattle.vx_model.specs.Naming.{with_mode}
 use Rattle.vx_model.specs.Walks.{root, walk, inode_of}
 
 -- ---- what a name means
@@ -45,20 +46,63 @@ pub record IsCreated (old new : Nodes) (path : List ℕ) (node : Node) (ino : �
   pub parent_is : map.get new at ≡ Some (IsDirectory (record directory { entries = map.insert directory.entries name ino }))
   pub others : (n : ℕ) → n ≢ at → n ≢ ino → map.get new n ≡ map.get old n
 
--- the path's name means nothing, each other name means what it meant, and only its directory and its inode have changed
+-- the new path leads to the old one's file, which has one name more; nothing else has changed but the new name's directory
+pub record IsLinked (old new : Nodes) (from to : List ℕ) : Type 0 where
+  pub ino : ℕ
+  pub file : File
+  pub at : ℕ
+  pub name : FileName
+  pub directory : Directory
+  pub walked : inode_of old from ≡ Ok ino
+  pub file_was : map.get old ino ≡ Some (IsFile file)
+  pub leads : LeadsTo old to at name
+  pub was : map.get old at ≡ Some (IsDirectory directory)
+  pub new_name : map.get directory.entries name ≡ None
+  pub walks : inode_of new to ≡ Ok ino
+  pub file_is : map.get new ino ≡ Some (IsFile (record file { nlink = file.nlink + 1 }))
+  pub parent_is : map.get new at ≡ Some (IsDirectory (record directory { entries = map.insert directory.entries name ino }))
+  pub others : (n : ℕ) → n ≢ at → n ≢ ino → map.get new n ≡ map.get old n
+
+-- the path's inode has the mode, and nothing else has changed
+pub record IsModeSet (old new : Nodes) (path : List ℕ) (mode : ℕ) : Type 0 where
+  pub ino : ℕ
+  pub node : Node
+  pub walked : inode_of old path ≡ Ok ino
+  pub was : map.get old ino ≡ Some node
+  pub node_is : map.get new ino ≡ Some (with_mode mode node)
+  pub others : (n : ℕ) → n ≢ ino → map.get new n ≡ map.get old n
+
+-- a node with one name less: a file that has more names stays, and all else goes
+abbrev pub with_name_less : Node → Option Node
+with_name_less (IsFile f) = if nat_le f.nlink 1 then None else Some (IsFile (record f { nlink = f.nlink - 1 }))
+with_name_less (IsDirectory d) = None
+
+-- if the inode was a directory, it is one still, of the same mode
+abbrev pub StaysDirectory : Nodes → Nodes → ℕ → Type 0
+StaysDirectory old new n = (d : Directory) → map.get old n ≡ Some (IsDirectory d) → (still : Directory) × (map.get new n ≡ Some (IsDirectory still)) × (still.mode ≡ d.mode)
+
+-- The path's name means nothing, and each other name means what it meant. Its directory has the name less, its inode is counted
+-- one name less or gone, and nothing else has changed.
 pub record IsRemoved (old new : Nodes) (path : List ℕ) : Type 0 where
   pub at : ℕ
   pub name : FileName
   pub ino : ℕ
   pub leads : LeadsTo old path at name
   pub meant : lookup old at name ≡ Some ino
+  pub directory : Directory
+  pub was : map.get old at ≡ Some (IsDirectory directory)
+  pub parent_is : map.get new at ≡ Some (IsDirectory (record directory { entries = map.remove directory.entries name }))
+  pub node : Node
+  pub node_was : map.get old ino ≡ Some node
+  pub node_is : map.get new ino ≡ with_name_less node
   pub nothing : inode_of new path ≡ Err no.NoEnt
   pub gone : lookup new at name ≡ None
   pub others : (q : ℕ) (x : FileName) → IsOther at name q x → lookup new q x ≡ lookup old q x
   pub nodes : (n : ℕ) → n ≢ at → n ≢ ino → map.get new n ≡ map.get old n
 
--- the new name means what the old one meant, the old one nothing, and each other name what it meant; only the directories and an
--- inode that had the new name have changed
+-- The new name means what the old one meant, the old one nothing, and each other name what it meant. Only the directories and an
+-- inode that had the new name have changed: a directory is still one, of its mode, and the replaced inode is counted one name less
+-- or gone.
 pub record IsRenamed (old new : Nodes) (from to : List ℕ) : Type 0 where
   pub at : ℕ
   pub name : FileName
@@ -72,6 +116,23 @@ pub record IsRenamed (old new : Nodes) (from to : List ℕ) : Type 0 where
   pub gone : lookup new at name ≡ None
   pub others : (q : ℕ) (x : FileName) → IsOther at name q x → IsOther new_at new_name q x → lookup new q x ≡ lookup old q x
   pub nodes : (n : ℕ) → n ≢ at → n ≢ new_at → lookup old new_at new_name ≢ Some n → map.get new n ≡ map.get old n
+  pub directories : (n : ℕ) → lookup old new_at new_name ≢ Some n → StaysDirectory old new n
+  pub replaced : (n : ℕ) (node : Node) → lookup old new_at new_name ≡ Some n → map.get old n ≡ Some node → map.get new n ≡ with_name_less node
+
+-- the old path means an inode that is the new path's directory, or stands above it: some names or none lead from the one to the other
+pub record GoesIntoItself (nodes : Nodes) (from to : List ℕ) : Type 0 where
+  pub at : ℕ
+  pub name : FileName
+  pub ino : ℕ
+  pub new_at : ℕ
+  pub new_name : FileName
+  pub parent : Directory
+  pub leads : LeadsTo nodes from at name
+  pub new_leads : LeadsTo nodes to new_at new_name
+  pub meant : lookup nodes at name ≡ Some ino
+  pub there : map.get nodes new_at ≡ Some (IsDirectory parent)
+  pub way : List FileName
+  pub walked : walk nodes ino way ≡ Ok new_at
 
 -- ---- link numbers
 

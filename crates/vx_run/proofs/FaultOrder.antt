@@ -9,8 +9,9 @@ use Rattle.vx_base.specs.declared.refusal.Refusal.TheVariants as no
 use Rattle.vx_base.specs.declared.reply.Reply.{Reply}
 use Rattle.vx_base.specs.declared.reply.Reply.TheVariants as say
 use Rattle.vx_dev.specs.Tape as dev
-use Rattle.vx_run.specs.Cores.{releases}
-use Rattle.vx_run.specs.Faults.{IsFaultless, TellsNoFault, TellsDisabled, FitsMount, FitsDevice, after_reply, before_reply, StopsAt, AreInOrder, ReplyInOrder, EndInOrder}
+use Rattle.vx_run.specs.Cores.{releases, TellsFaults}
+use Rattle.vx_run.proofs.Ending.{enabled_tells}
+use Rattle.vx_run.specs.Faults.{IsFaultless, TellsNoFault, TellsDisabled, FitsMount, FitsAsked, FitsDevice, TellsOwnFault, none_failed, failed, was_disabled, after_reply, before_reply, StopsAt, AreInOrder, ReplyInOrder, EndInOrder}
 
 -- blocks that waited were released
 pub fine_released : (h : List Event) (between : Option ℕ) (upto : ℕ) → All TellsNoFault h → All TellsNoFault (h ++ releases between upto)
@@ -158,3 +159,29 @@ end_unmounted o at d d2 h new none are order =
     let all : All TellsNoFault h = subst (λ (x : Option ℕ). AreInOrder x d h) none order in
     let more = subst (λ (es : List Event). All TellsNoFault es) (sym are) (All-push TellsNoFault h (event.Unmounted at) all tt) in
     subst (λ (x : Option ℕ). EndInOrder x d2 new) (sym none) more
+
+-- ---- a call's own fault
+
+-- a reply in memory, with nothing released before
+pub fits_memory : (o now : Option ℕ) (reply : Reply) → FitsMount o reply → now ≡ o → FitsAsked o now reply
+fits_memory None now reply fits same = subst (λ (x : Option ℕ). FitsAsked None x reply) (sym same) fits
+fits_memory (Some faults) now reply fits same = (same, fits)
+
+pub fits_released : (o between now : Option ℕ) (reply : Reply) → o ≡ None → between ≡ None → FitsMount between reply → now ≡ between → FitsAsked o now reply
+fits_released o between now reply none none2 fits same = fits_memory o now reply (subst (λ (x : Option ℕ). FitsMount x reply) (none2 ∙ sym none) fits) (same ∙ none2 ∙ sym none)
+
+stopped_by : (now : Option ℕ) (reply : Reply) → IsSome now → reply ≡ say.Refused no.WriteFault → FitsAsked None now reply
+stopped_by None reply some is = absurd cc
+stopped_by (Some faults) reply some is = is
+
+pub fits_stopped : (o now : Option ℕ) (reply : Reply) → o ≡ None → IsSome now → reply ≡ say.Refused no.WriteFault → FitsAsked o now reply
+fits_stopped o now reply none some is = subst (λ (x : Option ℕ). FitsAsked x now reply) (sym none) (stopped_by now reply some is)
+
+pub own_fault : (o between now : Option ℕ) (before : ℕ) (d : dev.State) (reply answer : Reply) → FitsAsked o between reply → FitsDevice between now d reply answer → (TellsFaults before before o → TellsFaults before d.write_faults now)
+    → TellsOwnFault o before d.write_faults reply answer
+own_fault (Some faults) between now before d reply answer asked fits tells =
+    let stayed = subst (λ (x : Option ℕ). FitsDevice x now d reply answer) asked.0 fits in was_disabled faults refl (stayed.1 ∙ asked.1)
+own_fault None None None before d reply answer asked fits tells = none_failed refl ((tells (enabled_tells before before None refl refl)).none refl) asked fits
+own_fault None None (Some faults) before d reply answer asked fits tells = failed refl ((tells (enabled_tells before before None refl refl)).some refl) fits.0
+own_fault None (Some faults) now before d reply answer asked fits tells =
+    failed refl ((tells (enabled_tells before before None refl refl)).some (subst IsSome (sym fits.0) refl)) (fits.1 ∙ asked)

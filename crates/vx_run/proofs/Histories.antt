@@ -12,7 +12,7 @@ use Rattle.vx_base.specs.declared.event.Event.TheVariants as event
 use Rattle.vx_base.proofs.Maps.{at_key, taken_back}
 use Rattle.vx_model.specs.State.{State}
 use Rattle.vx_model.specs.Step.{step}
-use Rattle.vx_model.specs.Legal.{World, Waiting, after, after_all, Legal, Allowed, IfThere, is_fault, is_no_space, state_after, RetAllowed, with_released}
+use Rattle.vx_model.specs.Legal.{World, Waiting, after, after_all, Legal, Allowed, IfThere, is_fault, tells_failed_write, is_no_space, state_after, RetAllowed, with_released}
 use Rattle.vx_model.proofs.Runs.{after_all-append, Legal-push}
 use Rattle.vx_dev.specs.Tape as dev
 use Rattle.vx_kernel.specs.Devices.{Onward}
@@ -109,7 +109,7 @@ open_released opened h s place line reply (Some at) upto count later run le is =
 
 -- the call is answered
 pub run_closed : (opened : Opened) (h : List Event) (s : State) (place line : ℕ) (reply : Reply) (count later count2 : ℕ) (answer : Reply) → IsOpen opened h s place line reply count → count ≤ later → later ≤ count2
-    → (answer ≡ reply) ⊎ (is_fault answer ≡ true) → IsRun opened (h ++ event.Ret later place answer ∷ []) s count2
+    → (answer ≡ reply) ⊎ (tells_failed_write answer ≡ true) → IsRun opened (h ++ event.Ret later place answer ∷ []) s count2
 run_closed opened h s place line reply count later count2 answer run low high fits =
     let w = after_all (beginning opened) h in
     let e : Event = event.Ret later place answer in

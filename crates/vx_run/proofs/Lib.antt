@@ -5,6 +5,7 @@ pub mod Carrying
 pub mod Replying
 pub mod Refusing
 pub mod Histories
+pub mod Coming
 pub mod Crashing
 pub mod FaultOrder
 pub mod Releasing

@@ -10,7 +10,7 @@ use Rattle.vx_log.specs.Moments.{Told}
 use Rattle.vx_model.specs.Allowed.{come_by, is_refusal, IsAllowed}
 use Rattle.vx_model.specs.AllowedLaws.{IsPlaced, AllowedLaws}
 use Rattle.vx_model.specs.EditLaws.{EditLaws}
-use Rattle.vx_model.specs.Legal.{is_fault}
+use Rattle.vx_model.specs.Legal.{tells_failed_write}
 use Rattle.vx_model.specs.Replays.{ReplaysAs}
 use Rattle.vx_model.specs.State.{State}
 use Rattle.vx_model.specs.Touching.{Touched, untouched}
@@ -148,7 +148,7 @@ module _ (laws : AllowedLaws) (edits : EditLaws) (waiting : WaitingLaws) (d d2 :
   -- what holds behind the answer
   pub base_noted : (final : Core) (is : IsNoted d2 core.opened h at later place line call reply answer new begun after) → begun.history.items ≡ h ++ event.Do at 0 line call reply ∷ []
       → final.history.items ≡ after.history.items ++ event.Ret later place answer ∷ [] → final.opened ≡ core.opened → final.disabled ≡ after.disabled → final.journal ≡ after.journal
-      → (after.disabled ≡ None → IsAtRest after.journal) → after.journal.log.head ≤ core.journal.log.head + 17 → (answer ≡ reply) ⊎ (is_fault answer ≡ true)
+      → (after.disabled ≡ None → IsAtRest after.journal) → after.journal.log.head ≤ core.journal.log.head + 17 → (answer ≡ reply) ⊎ (tells_failed_write answer ≡ true)
       → IsBase d2 final (released_by is.between place new)
   base_noted final is first last opened disabled journal rest head fits =
       let es = longer laws core.opened h at later place line place call reply answer is.between order is.inside asked.base.placed came in

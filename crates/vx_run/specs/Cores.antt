@@ -18,11 +18,12 @@ use Rattle.vx_model.specs.State.{State, fresh}
 use Rattle.vx_model.specs.Step.{step}
 use Rattle.vx_model.specs.Touching.{Touched, IsTouched, untouched}
 use Rattle.vx_model.specs.Waiting.{Waits}
-use Rattle.vx_model.specs.Legal.{World, opening, after_all, Legal, IfThere, is_fault, is_no_space, state_after, with_released}
+use Rattle.vx_model.specs.Legal.{World, opening, at_of, after_all, Legal, IfThere, is_fault, is_no_space, state_after, with_released}
 use Rattle.vx_kernel.specs.Journals.{IsAtRest, IsMounted, IsKept}
 use Rattle.vx_kernel.specs.Sizes.{new_log_blocks}
 use Rattle.vx_txn.specs.Metas.{IsStateOf}
 use Rattle.vx_txn.specs.declared.meta.Meta.{Meta}
+use Rattle.vx_run.specs.Faults.{TellsOwnFault}
 use Rattle.vx_run.specs.declared.engine.Core.{Core}
 use Rattle.vx_run.specs.declared.engine.Opened.{Opened}
 
@@ -101,8 +102,9 @@ abbrev pub IsBetween : Option ℕ → (from to : ℕ) → Type 0
 IsBetween None from to = Unit {0}
 IsBetween (Some at) from to = (from ≤ at) × (at ≤ to)
 
--- a line's call and its answer, behind the history before it; blocks that waited may have been released before the call and in it
-pub record IsAnswered (line : ℕ) (call : Call) (old new : List Event) : Type 0 where
+-- a line's call and its answer, behind the history before it; blocks that waited may have been released before the call and in it,
+-- and the answer tells a failed write of this very call
+pub record IsAnswered (before after : dev.State) (disabled : Option ℕ) (line : ℕ) (call : Call) (old new : List Event) : Type 0 where
   pub earlier : Option ℕ
   pub at : ℕ
   pub reply : Reply
@@ -111,7 +113,18 @@ pub record IsAnswered (line : ℕ) (call : Call) (old new : List Event) : Type 0
   pub answer : Reply
   pub place : ℕ
   pub upto : ℕ
+  pub told : TellsOwnFault disabled before.write_faults after.write_faults reply answer
   pub is : new ≡ (((old ++ releases earlier (length old)) ++ event.Do at 0 line call reply ∷ []) ++ releases between upto) ++ event.Ret later place answer ∷ []
+
+-- an event came when the device had done so many operations
+abbrev pub CameBetween : (from to : ℕ) → Event → Type 0
+CameBetween from to e = (from ≤ at_of e) × (at_of e ≤ to)
+
+-- the events that were added came while the device's count of operations went from the one number to the other
+pub record CameWithin (from to : ℕ) (old new : List Event) : Type 0 where
+  pub added : List Event
+  pub is : new ≡ old ++ added
+  pub inside : All (CameBetween from to) added
 
 -- The change was carried to the device: each image on the way replays as the tree before it or after it, and blocks that waited may
 -- have been released.

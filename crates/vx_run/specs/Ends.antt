@@ -1,5 +1,5 @@
 -- How a run ends, and why.
-use Rattle.std.specs.Prelude.{◌≡◌, ◌<◌, ◌≤◌, ◌+◌, ℕ, Bool, true, false, List, [], Option, Result, Ok, Err, IfSome, is_some, not, if◌then◌else◌}
+use Rattle.std.specs.Prelude.{◌≡◌, ◌<◌, ◌≤◌, ◌+◌, ℕ, Bool, true, false, List, [], Option, Result, Ok, Err, IfSome, is_some, not, if◌then◌else◌, All}
 use Rattle.std.specs.Io.KnownBytes.{Appends}
 use Rattle.vx_base.specs.declared.call.Call.{Call}
 use Rattle.vx_base.specs.declared.event.Event.{Event}
@@ -20,7 +20,7 @@ use Rattle.vx_model.specs.Legal.{after_all}
 use Rattle.vx_model.specs.Replays.{IsLeft}
 use Rattle.vx_run.specs.Faults.{EndInOrder}
 use Rattle.vx_run.specs.declared.engine.Opened.{Opened}
-use Rattle.vx_run.specs.Cores.{beginning, IsEnded, is_unmounted, IsOfLines}
+use Rattle.vx_run.specs.Cores.{beginning, CameBetween, IsEnded, is_unmounted, IsOfLines}
 
 -- what a run is given: its words, its script where the source tells it, its device, and the source's faults so far
 pub record Setting : Type 0 where
@@ -83,9 +83,9 @@ pub record IsUnformatted (s : Setting) (d : dev.State) : Type 0 where
 
 -- A run that was begun: its history is legal from a new file system on, its calls are the script's lines in order, all of them,
 -- and each is answered; it ends unmounted exactly where no write failed, and no call is answered a fault before the failed write,
--- nor otherwise behind it. Where the device tells its operations, each image that a
--- crash may leave at any moment from the end of the format on is one that the history allows; and unmounted, the one image is
--- clean and reads as the history's final tree.
+-- nor otherwise behind it. Each event came at a moment from the end of the format to the end of the run. Where the device tells its
+-- operations, each image that a crash may leave at any of these moments is one that the history allows; and unmounted, the one image
+-- is clean and reads as the history's final tree.
 pub record IsFinished (s : Setting) (d : dev.State) (disabled : Bool) (history : List Event) : Type 0 where
   pub calls : List Call
   pub asks : Asks s calls
@@ -99,6 +99,7 @@ pub record IsFinished (s : Setting) (d : dev.State) (disabled : Bool) (history :
   pub fine : disabled ≡ false → d.write_faults ≡ s.device.write_faults
   pub rose : disabled ≡ true → Rose s.device.write_faults d.write_faults
   pub formatted : s.device.count + format_ops ≤ d.count
+  pub came : All (CameBetween (s.device.count + format_ops) d.count) history
   pub crash : Told d (Always (s.device.count + format_ops) (IsAllowed (beginning (opened_on s.device)) history))
   pub clean : disabled ≡ false → Told d (IsLeft s.device.size (after_all (beginning (opened_on s.device)) history).state.tree)
 

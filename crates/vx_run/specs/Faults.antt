@@ -7,6 +7,7 @@ use Rattle.vx_base.specs.declared.refusal.Refusal.{Refusal}
 use Rattle.vx_base.specs.declared.refusal.Refusal.TheVariants as no
 use Rattle.vx_base.specs.declared.reply.Reply.{Reply}
 use Rattle.vx_base.specs.declared.reply.Reply.TheVariants as say
+use Rattle.vx_base.specs.Faults.{Rose}
 use Rattle.vx_dev.specs.Tape as dev
 
 -- a refusal that a fault of the device has caused, in this call or an earlier one
@@ -42,6 +43,20 @@ abbrev pub FitsDevice : (disabled now : Option ℕ) → dev.State → (reply ans
 FitsDevice None None d reply answer = answer ≡ reply
 FitsDevice None (Some faults) d reply answer = (answer ≡ say.Refused no.WriteFault) × (faults ≡ d.write_faults)
 FitsDevice (Some faults) now d reply answer = (now ≡ Some faults) × (answer ≡ reply)
+
+-- What a call replies, where the log may have been emptied before it: no fault; or WriteFault where that failed, which disables the
+-- mount; or that it was disabled.
+abbrev pub FitsAsked : (before now : Option ℕ) → Reply → Type 0
+FitsAsked None None reply = IsFaultless reply
+FitsAsked None (Some faults) reply = reply ≡ say.Refused no.WriteFault
+FitsAsked (Some faults) now reply = (now ≡ Some faults) × (reply ≡ say.Refused (no.Disabled faults))
+
+-- How a call is answered, by the device's count of failed writes before it and behind it: with its reply, which tells no fault, where
+-- no write failed in it; with WriteFault where one did; and with Disabled where the mount was disabled before it.
+pub data TellsOwnFault (disabled : Option ℕ) (before now : ℕ) (reply answer : Reply) : Type 0 where
+  none_failed : disabled ≡ None → now ≡ before → IsFaultless reply → answer ≡ reply → TellsOwnFault disabled before now reply answer
+  failed : disabled ≡ None → Rose before now → answer ≡ say.Refused no.WriteFault → TellsOwnFault disabled before now reply answer
+  was_disabled : (faults : ℕ) → disabled ≡ Some faults → answer ≡ say.Refused (no.Disabled faults) → TellsOwnFault disabled before now reply answer
 
 -- A call is answered WriteFault at so many operations; where a write failed before the call was done, its reply is that too.
 pub data IsStop (ops : ℕ) (events : List Event) : Type 0 where

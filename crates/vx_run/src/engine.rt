@@ -4,7 +4,7 @@ ghost use Rattle.vx_base.specs.Faults.{HasCause};
 ghost use Rattle.vx_base.specs.declared.event.Event.TheVariants as event;
 ghost use Rattle.vx_base.specs.declared.call.Call.{Call};
 ghost use Rattle.vx_model.specs.Step.{has_step};
-ghost use Rattle.vx_model.specs.Legal.{is_fault, is_no_space};
+ghost use Rattle.vx_model.specs.Legal.{tells_failed_write, is_no_space};
 ghost use Rattle.vx_model.specs.Allowed.{is_refusal};
 ghost use Rattle.vx_model.specs.State.{State};
 ghost use Rattle.vx_model.specs.Touching.{untouched};
@@ -13,8 +13,8 @@ ghost use Rattle.vx_txn.specs.Metas.{IsStateOf};
 ghost use Rattle.vx_txn.specs.Calls.{HasMode, most};
 ghost use Rattle.std.specs.declared.option.Option.{Option};
 ghost use Rattle.vx_base.specs.declared.refusal.Refusal.TheVariants as no;
-ghost use Rattle.vx_run.specs.Cores.{HasDone, IsAsked, releases};
-ghost use Rattle.vx_run.specs.Faults.{FitsMount, FitsDevice, AreInOrder, ReplyInOrder, EndInOrder};
+ghost use Rattle.vx_run.specs.Cores.{HasDone, IsAsked, releases, CameWithin};
+ghost use Rattle.vx_run.specs.Faults.{FitsMount, FitsAsked, FitsDevice, AreInOrder, ReplyInOrder, EndInOrder};
 ghost use Rattle.vx_base.specs.declared.reply.Reply.TheVariants.{Refused};
 
 use std::alloc::{AllocError, Global};
@@ -102,7 +102,8 @@ impl Core {
         requires room { vec_len self.old.history + 4 ≤ vec_capacity self.old.history }
         requires short { vec_len self.old.history < 2 ^ 32 }
         ensures core { IsCore (D.state dev.new) self.new }
-        ensures answered { IsAnswered line call self.old.history.items self.new.history.items }
+        ensures answered { IsAnswered (D.state dev.old) (D.state dev.new) self.old.disabled line call self.old.history.items self.new.history.items }
+        ensures came { CameWithin (D.state dev.old).count (D.state dev.new).count self.old.history.items self.new.history.items }
         ensures order { AreInOrder self.old.disabled (D.state dev.old) self.old.history.items → AreInOrder self.new.disabled (D.state dev.new) self.new.history.items }
         ensures capacity { vec_capacity self.old.history ≤ vec_capacity self.new.history }
         ensures opened { self.new.opened ≡ self.old.opened }
@@ -123,7 +124,9 @@ impl Core {
         ensures asked { IsAsked (D.state dev.new) self.new call.now result.0 }
         ensures few { most self.new.touched ≤ 4 }
         ensures copy { result.1 ≡ result.0 }
+        ensures fits { FitsAsked self.old.disabled self.new.disabled result.0 }
         ensures history { (at : Option ℕ) × (self.new.history.items ≡ self.old.history.items ++ releases at (length self.old.history.items)) }
+        ensures came { CameWithin (D.state dev.old).count (D.state dev.new).count self.old.history.items self.new.history.items }
         ensures order { AreInOrder self.old.disabled (D.state dev.old) self.old.history.items → ReplyInOrder self.new.disabled (D.state dev.new) self.new.history.items result.0 }
         ensures capacity { vec_capacity self.old.history ≤ vec_capacity self.new.history }
         ensures opened { self.new.opened ≡ self.old.opened }
@@ -172,6 +175,9 @@ impl Core {
         requires room { vec_len self.old.history < vec_capacity self.old.history }
         ensures core { IsCore (D.state dev.new) self.new }
         ensures history { (at : Option ℕ) × (self.new.history.items ≡ self.old.history.items ++ releases at (length self.old.history.items)) }
+        ensures came { CameWithin (D.state dev.old).count (D.state dev.new).count self.old.history.items self.new.history.items }
+        ensures enabled { OnOk result (self.new.disabled ≡ None) }
+        ensures disabled { OnErr result (IsSome self.new.disabled) }
         ensures released { OnOk result ((b : ℕ) → (after_all (beginning self.new.opened) self.new.history.items).state.layout.pending b ≡ None) }
         ensures order { AreInOrder self.old.disabled (D.state dev.old) self.old.history.items → OnOk result (AreInOrder self.new.disabled (D.state dev.new) self.new.history.items) }
         ensures fault { AreInOrder self.old.disabled (D.state dev.old) self.old.history.items → OnErr result (ReplyInOrder self.new.disabled (D.state dev.new) self.new.history.items (Refused no.WriteFault)) }
@@ -223,8 +229,9 @@ impl Core {
         requires room { vec_len self.old.history + 3 ≤ vec_capacity self.old.history }
         requires short { vec_len self.old.history ≤ 2 ^ 32 }
         ensures core { IsCore (D.state dev.new) self.new }
-        ensures noted { (at : ℕ) × (between : Option ℕ) × (later : ℕ) × (last : Reply) × (place : ℕ) × (upto : ℕ) × (self.new.history.items ≡
+        ensures noted { (at : ℕ) × (between : Option ℕ) × (later : ℕ) × (last : Reply) × (place : ℕ) × (upto : ℕ) × FitsDevice self.old.disabled self.new.disabled (D.state dev.new) reply last × (self.new.history.items ≡
             ((self.old.history.items ++ event.Do at 0 line call reply ∷ []) ++ releases between upto) ++ event.Ret later place last ∷ []) }
+        ensures came { CameWithin (D.state dev.old).count (D.state dev.new).count self.old.history.items self.new.history.items }
         ensures order { ReplyInOrder self.old.disabled (D.state dev.old) self.old.history.items reply → AreInOrder self.new.disabled (D.state dev.new) self.new.history.items }
         ensures capacity { vec_capacity self.old.history ≤ vec_capacity self.new.history }
         ensures opened { self.new.opened ≡ self.old.opened }
@@ -259,13 +266,14 @@ impl Core {
         requires limit { self.old.journal.log.head + 17 ≤ 2 ^ 62 }
         ensures rest { self.new.disabled ≡ None → IsAtRest self.new.journal }
         ensures head { self.new.journal.log.head ≤ self.old.journal.log.head + 17 }
-        ensures answer { (result ≡ answer) ⊎ (is_fault result ≡ true) }
+        ensures answer { (result ≡ answer) ⊎ (tells_failed_write result ≡ true) }
         ensures fits { FitsDevice self.old.disabled self.new.disabled (D.state dev.new) answer result }
         ensures untouched { (self.old.touched ≡ untouched) ⊎ IsSome self.old.disabled → IsUntouched (D.state dev.old) (D.state dev.new) self.old self.new answer result }
         ensures carried { (s new : State) → self.old.touched ≢ untouched → self.old.disabled ≡ None → IsMounted s → IsMounted new → IsStateOf self.old.meta new → IsTouched s new self.old.touched
             → Waits place s new → Told (D.state dev.old) (IsKept self.old.journal.log self.old.journal.homes s)
             → IsCarried s new place (D.state dev.old) (D.state dev.new) self.old self.new result }
         ensures history { (at : Option ℕ) × (self.new.history.items ≡ self.old.history.items ++ releases at place) }
+        ensures came { CameWithin (D.state dev.old).count (D.state dev.new).count self.old.history.items self.new.history.items }
         ensures capacity { vec_capacity self.old.history ≤ vec_capacity self.new.history }
         ensures opened { self.new.opened ≡ self.old.opened }
         ensures touched { self.new.touched ≡ self.old.touched }
@@ -298,6 +306,7 @@ impl Core {
             → Waits place s new → Told (D.state dev.old) (IsKept self.old.journal.log self.old.journal.homes s)
             → IsCommitted s new place (D.state dev.old) (D.state dev.new) self.old self.new result }
         ensures history { (at : Option ℕ) × (self.new.history.items ≡ self.old.history.items ++ releases at place) }
+        ensures came { CameWithin (D.state dev.old).count (D.state dev.new).count self.old.history.items self.new.history.items }
         ensures capacity { vec_capacity self.old.history ≤ vec_capacity self.new.history }
         ensures same { self.new ≡ record self.old { journal = self.new.journal; meta = self.new.meta; history = self.new.history } }
         ensures onward { Onward (D.state dev.old) (D.state dev.new) }
@@ -323,6 +332,7 @@ impl Core {
         requires few { length calls.items ≤ 65535 }
         ensures core { IsCore (D.state dev.new) self.new }
         ensures lines { IsOfLines self.new.history.items calls.items }
+        ensures came { CameWithin (D.state dev.old).count (D.state dev.new).count self.old.history.items self.new.history.items }
         ensures order { AreInOrder self.old.disabled (D.state dev.old) self.old.history.items → AreInOrder self.new.disabled (D.state dev.new) self.new.history.items }
         ensures room { vec_len self.new.history + 1 ≤ vec_capacity self.new.history }
         ensures short { vec_len self.new.history ≤ 262140 }
@@ -347,6 +357,7 @@ impl Core {
         ensures unmounted { is_unmounted self.new.opened self.new.history.items ≡ is_none self.new.disabled }
         ensures order { AreInOrder self.old.disabled (D.state dev.old) self.old.history.items → EndInOrder self.new.disabled (D.state dev.new) self.new.history.items }
         ensures lines { (calls : List Call) → IsOfLines self.old.history.items calls → IsOfLines self.new.history.items calls }
+        ensures came { CameWithin (D.state dev.old).count (D.state dev.new).count self.old.history.items self.new.history.items }
         ensures short { vec_len self.new.history ≤ vec_len self.old.history + 1 }
         ensures opened { self.new.opened ≡ self.old.opened }
         ensures faults { (before : ℕ) → TellsFaults before (D.state dev.old).write_faults self.old.disabled → TellsFaults before (D.state dev.new).write_faults self.new.disabled }

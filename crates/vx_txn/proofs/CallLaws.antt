@@ -1,6 +1,6 @@
 -- What a call leaves and answers.
 use Rattle.std.proofs.Common.{◌≡◌, ℕ, ◌+◌, ◌≤◌, List, [], ◌∷◌, ◌++◌, length, Option, Some, None, Ok, Err, refl, sym, ◌∙◌, ap, subst, arith, Bool, true, false, cond, map, inl, inr}
-use Rattle.std.specs.Prelude.{is_some}
+use Rattle.std.specs.Prelude.{Result, IfOk, is_some}
 use Rattle.std.specs.Option.{option_map}
 use Rattle.std.specs.List.{count_by, position_or_len, slice_get, sum_by}
 use Rattle.std.specs.Ordering.{nat_cmp}
@@ -22,7 +22,7 @@ use Rattle.vx_model.specs.State.{State, Done, settled}
 use Rattle.vx_model.specs.Touching.{Touched, IsTouched, untouched}
 use Rattle.vx_txn.specs.Calls.{HasGone, IsDone, IsSettled}
 use Rattle.vx_txn.specs.Metas.{Stands}
-use Rattle.vx_txn.specs.Replies.{IsShort, IsSound}
+use Rattle.vx_txn.specs.Replies.{FitsReply, IsShort, IsSound}
 use Rattle.vx_txn.specs.declared.meta.Meta.{Meta}
 use Rattle.vx_txn.proofs.EntryLaws.{get_entries, count_cons}
 
@@ -85,3 +85,17 @@ short_sound (say.Ext attrs) h = absurd h
 short_sound (say.Moved from to) h = absurd h
 short_sound (say.Extents extents pages maps) h = absurd h
 short_sound (say.DirBlocks blocks entries) h = absurd h
+
+-- what touches nothing fits every reply
+nothing_fits : (t : Touched) (r : Reply) → t ≡ untouched → FitsReply t r
+nothing_fits t (say.Made ino) none = tt
+nothing_fits t say.Fine none = tt
+nothing_fits t _ none = none
+
+pub reply_fits : {E : Type 0} (t : Touched) (r : Result Reply E) → t ≡ untouched → IfOk r (FitsReply t)
+reply_fits t (Ok reply) none = nothing_fits t reply none
+reply_fits t (Err e) none = tt
+
+pub replies_fit : {E : Type 0} (t : Touched) (r : Result (Reply × Reply) E) → t ≡ untouched → IfOk r (λ replies. FitsReply t replies.0)
+replies_fit t (Ok replies) none = nothing_fits t replies.0 none
+replies_fit t (Err e) none = tt

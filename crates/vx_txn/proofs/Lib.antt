@@ -14,6 +14,7 @@ pub mod Moves
 pub mod NameEdits
 pub mod NodeEdits
 pub mod PathEnds
+mod PendingBlocks
 pub mod Placing
 pub mod ReadLaws
 pub mod SlotLaws

@@ -5,7 +5,7 @@ ghost use Rattle.vx_model.specs.State.{State};
 ghost use Rattle.vx_model.specs.Touching.{untouched};
 ghost use Rattle.vx_txn.specs.Calls.{IsSettled, most};
 ghost use Rattle.vx_txn.specs.Metas.{Stands, IsSound, IsUnchanged};
-ghost use Rattle.vx_txn.specs.Replies.{IsShort};
+ghost use Rattle.vx_txn.specs.Replies.{FitsReply, IsShort};
 
 use crate::edits::set_mode;
 use crate::meta::Meta;
@@ -28,6 +28,7 @@ pub fn chmod(
     requires empty { touched.old ≡ untouched }
     ensures done { (s : State) → Stands meta.old s → IfOk result (IsSettled s (chmod s path.now mode) meta.new touched.new) }
     ensures short { IfOk result IsShort }
+    ensures fits { IfOk result (FitsReply touched.new) }
     ensures few { most touched.new ≤ 4 }
     ensures unchanged { OnErr result (IsUnchanged meta.old meta.new) }
     ensures untouched { OnErr result (touched.new ≡ untouched) }
@@ -47,6 +48,7 @@ fn chmod_at(meta: &mut Meta, ino: Ino, mode: u16, touched: &mut Touched) -> Repl
     requires empty { touched.old ≡ untouched }
     ensures done { (s : State) → Stands meta.old s → IsSettled s (chmod_at s mode ino) meta.new touched.new result }
     ensures short { IsShort result }
+    ensures fits { FitsReply touched.new result }
     ensures few { most touched.new ≤ 4 }
 {
     if meta.inodes.get(ino).is_none() {

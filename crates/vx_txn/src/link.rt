@@ -10,7 +10,7 @@ ghost use Rattle.vx_txn.specs.Directories.{IsNewIn};
 ghost use Rattle.vx_txn.specs.Metas.{Stands, IsSound, IsUnchanged, directory_of};
 ghost use Rattle.vx_txn.specs.Removals.{links_of};
 ghost use Rattle.vx_txn.specs.Links.{link_new, link_to};
-ghost use Rattle.vx_txn.specs.Replies.{IsShort};
+ghost use Rattle.vx_txn.specs.Replies.{FitsReply, IsShort};
 
 use crate::edits::{add_link, add_name};
 use crate::make::refused;
@@ -37,6 +37,7 @@ pub fn link(
     requires empty { touched.old ≡ untouched }
     ensures done { (s : State) → Stands meta.old s → IfOk result (IsSettled s (link s old.now new.now) meta.new touched.new) }
     ensures short { IfOk result IsShort }
+    ensures fits { IfOk result (FitsReply touched.new) }
     ensures few { most touched.new ≤ 4 }
     ensures unchanged { OnErr result (IsUnchanged meta.old meta.new) }
     ensures untouched { OnErr result (touched.new ≡ untouched) }
@@ -60,6 +61,7 @@ fn link_names(
     requires empty { touched.old ≡ untouched }
     ensures done { (s : State) → Stands meta.old s → IfOk result (IsSettled s (link_new s old.now new.now) meta.new touched.new) }
     ensures short { IfOk result IsShort }
+    ensures fits { IfOk result (FitsReply touched.new) }
     ensures few { most touched.new ≤ 4 }
     ensures unchanged { OnErr result (IsUnchanged meta.old meta.new) }
     ensures untouched { OnErr result (touched.new ≡ untouched) }
@@ -82,6 +84,7 @@ fn link_along(
     requires empty { touched.old ≡ untouched }
     ensures done { (s : State) → Stands meta.old s → IfOk result (IsSettled s (link_along s old.now new.now) meta.new touched.new) }
     ensures short { IfOk result IsShort }
+    ensures fits { IfOk result (FitsReply touched.new) }
     ensures few { most touched.new ≤ 4 }
     ensures unchanged { OnErr result (IsUnchanged meta.old meta.new) }
     ensures untouched { OnErr result (touched.new ≡ untouched) }
@@ -109,6 +112,7 @@ fn link_file(
     requires empty { touched.old ≡ untouched }
     ensures done { (s : State) → Stands meta.old s → IfOk result (IsSettled s (link_inode s new.now ino) meta.new touched.new) }
     ensures short { IfOk result IsShort }
+    ensures fits { IfOk result (FitsReply touched.new) }
     ensures few { most touched.new ≤ 4 }
     ensures unchanged { OnErr result (IsUnchanged meta.old meta.new) }
     ensures untouched { OnErr result (touched.new ≡ untouched) }
@@ -137,6 +141,7 @@ fn link_at(
     requires empty { touched.old ≡ untouched }
     ensures done { (s : State) → Stands meta.old s → IfOk result (IsSettled s (link_to s ino at name.now) meta.new touched.new) }
     ensures short { IfOk result IsShort }
+    ensures fits { IfOk result (FitsReply touched.new) }
     ensures few { most touched.new ≤ 4 }
     ensures unchanged { OnErr result (IsUnchanged meta.old meta.new) }
     ensures untouched { OnErr result (touched.new ≡ untouched) }
@@ -168,6 +173,7 @@ fn link_in(
     requires empty { touched.old ≡ untouched }
     ensures done { (s : State) → Stands meta.old s → IfOk result (IsSettled s (link_to s ino at name.now) meta.new touched.new) }
     ensures short { IfOk result IsShort }
+    ensures fits { IfOk result (FitsReply touched.new) }
     ensures few { most touched.new ≤ 4 }
     ensures unchanged { OnErr result (IsUnchanged meta.old meta.new) }
     ensures untouched { OnErr result (touched.new ≡ untouched) }

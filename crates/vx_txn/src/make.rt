@@ -10,7 +10,7 @@ ghost use Rattle.vx_txn.specs.Directories.{IsNewIn};
 ghost use Rattle.vx_txn.specs.Edits.{make_path, new_node, refusal_reply};
 ghost use Rattle.vx_txn.specs.Makings.{full_reply};
 ghost use Rattle.vx_txn.specs.Metas.{Stands, IsSound, IsUnchanged, directory_of};
-ghost use Rattle.vx_txn.specs.Replies.{IsShort};
+ghost use Rattle.vx_txn.specs.Replies.{FitsReply, IsShort};
 
 use crate::edits::{EditRefusal, add_name, make_node, take_back};
 use crate::meta::Meta;
@@ -41,6 +41,7 @@ pub fn make(
     requires empty { touched.old ≡ untouched }
     ensures done { (s : State) → Stands meta.old s → IfOk result (IsSettled s (make_path s path.now (new_node making.kind making.mode)) meta.new touched.new) }
     ensures short { IfOk result IsShort }
+    ensures fits { IfOk result (FitsReply touched.new) }
     ensures few { most touched.new ≤ 4 }
     ensures unchanged { OnErr result (IsUnchanged meta.old meta.new) }
     ensures untouched { OnErr result (touched.new ≡ untouched) }
@@ -66,6 +67,7 @@ fn make_along(
     requires empty { touched.old ≡ untouched }
     ensures done { (s : State) → Stands meta.old s → IfOk result (IsSettled s (make_along s (new_node making.kind making.mode) names.now) meta.new touched.new) }
     ensures short { IfOk result IsShort }
+    ensures fits { IfOk result (FitsReply touched.new) }
     ensures few { most touched.new ≤ 4 }
     ensures unchanged { OnErr result (IsUnchanged meta.old meta.new) }
     ensures untouched { OnErr result (touched.new ≡ untouched) }
@@ -94,6 +96,7 @@ fn make_at(
     requires empty { touched.old ≡ untouched }
     ensures done { (s : State) → Stands meta.old s → IfOk result (IsSettled s (make_at s name.now (new_node making.kind making.mode) at) meta.new touched.new) }
     ensures short { IfOk result IsShort }
+    ensures fits { IfOk result (FitsReply touched.new) }
     ensures few { most touched.new ≤ 4 }
     ensures unchanged { OnErr result (IsUnchanged meta.old meta.new) }
     ensures untouched { OnErr result (touched.new ≡ untouched) }
@@ -125,6 +128,7 @@ fn make_in(
     requires empty { touched.old ≡ untouched }
     ensures done { (s : State) → Stands meta.old s → IfOk result (IsSettled s (make_at s name.now (new_node making.kind making.mode) at) meta.new touched.new) }
     ensures short { IfOk result IsShort }
+    ensures fits { IfOk result (FitsReply touched.new) }
     ensures few { most touched.new ≤ 4 }
     ensures unchanged { OnErr result (IsUnchanged meta.old meta.new) }
     ensures untouched { OnErr result (touched.new ≡ untouched) }

@@ -1,5 +1,5 @@
 //! The metadata.
-ghost use Rattle.std.specs.Prelude.{◌≡◌, ◌+◌, ◌*◌, ◌≤◌, ◌<◌, IfOk, IfSome, OnErr, ℕ, Option, None, true, false, is_some, IsTrue};
+ghost use Rattle.std.specs.Prelude.{◌≡◌, ◌+◌, ◌*◌, ◌≤◌, ◌<◌, IfOk, IfSome, IsSome, OnErr, ℕ, Option, None, true, false, is_some, IsTrue};
 ghost use Rattle.std.specs.Option.{option_copied};
 ghost use Rattle.vx_base.specs.declared.kind.FileKind.TheVariants as kind;
 ghost use Rattle.vx_layout.specs.Places.{is_data};
@@ -13,10 +13,9 @@ ghost use Rattle.vx_model.specs.Step.{has_step, step};
 ghost use Rattle.vx_model.specs.Touching.{untouched};
 ghost use Rattle.vx_model.specs.Tree.{no_attrs};
 ghost use Rattle.vx_txn.specs.Calls.{HasMode, IsDone, IsSettled, most};
-ghost use Rattle.vx_txn.specs.Directories.{directory_at};
-ghost use Rattle.vx_txn.specs.Replies.{IsShort, IsSound as IsSoundReply};
+ghost use Rattle.vx_txn.specs.Replies.{FitsReply, IsShort, IsSound as IsSoundReply};
 ghost use Rattle.vx_txn.specs.Values.{value_by, block_count, extent_from, has_short_step};
-ghost use Rattle.vx_txn.specs.Metas.{IsStateOf, IsSound, IsUnchanged, Stands};
+ghost use Rattle.vx_txn.specs.Metas.{IsStateOf, IsSound, IsUnchanged, Stands, directory_of};
 
 use crate::chmod::chmod;
 use crate::directory::Directory;
@@ -45,11 +44,11 @@ const ROOT_MODE: u16 = 0o755;
 /// The inodes, the directories by their inode numbers, and the free blocks.
 #[derive(Drop)]
 pub struct Meta {
-    pub inodes: InodeTable,
-    pub directories: Vec<Option<Directory>>,
-    pub free: FreeMap,
+    pub(crate) inodes: InodeTable,
+    pub(crate) directories: Vec<Option<Directory>>,
+    pub(crate) free: FreeMap,
     /// The first block of unit 0.
-    pub first: Block,
+    pub(crate) first: Block,
 }
 
 impl Meta {
@@ -76,7 +75,7 @@ impl Meta {
     }
 
     /// Does a call of names at this place of the history, and answers its reply, twice. Nothing changes where memory is
-    /// short or the call is refused.
+    /// short or the call is refused. A refused call, stat and list touch nothing.
     pub fn apply(
         &mut self,
         alloc: Global,
@@ -93,6 +92,7 @@ impl Meta {
         ensures copy { IfOk result (λ replies. replies.1 ≡ replies.0) }
         ensures sound { IfOk result (λ replies. IsSoundReply replies.0) }
         ensures stays { IsSound self.new }
+        ensures fits { IfOk result (λ replies. FitsReply touched.new replies.0) }
         ensures few { most touched.new ≤ 4 }
         ensures err { (s : State) → IsStateOf self.old s → OnErr result (IsStateOf self.new s) }
         ensures untouched { OnErr result (touched.new ≡ untouched) }
@@ -112,7 +112,8 @@ impl Meta {
 
     /// Whether blocks wait to be free.
     pub fn has_pending(&self) -> bool
-        ensures { (s : State) → IsStateOf self.now s → result ≡ false → (b : ℕ) → s.layout.pending b ≡ None }
+        ensures none { (s : State) → IsStateOf self.now s → result ≡ false → (b : ℕ) → s.layout.pending b ≡ None }
+        ensures some { (s : State) → IsStateOf self.now s → result ≡ true → (b : ℕ) × IsSome (s.layout.pending b) }
     {
         self.free.pending() != 0
     }
@@ -129,7 +130,7 @@ impl Meta {
 
     /// The directory of an inode number.
     pub fn directory(&self, ino: Ino) -> Option<&Directory>
-        ensures { option_copied result ≡ directory_at self.now.directories.items ino }
+        ensures { option_copied result ≡ directory_of self.now ino }
     {
         directory_at(self.directories.as_slice(), ino)
     }
@@ -226,6 +227,7 @@ fn changed(
         → IfOk result (λ replies. IfThere (step s place session call.now) (λ done. IsDone s done meta.new touched.new replies.0)) }
     ensures copy { IfOk result (λ replies. replies.1 ≡ replies.0) }
     ensures short { IfOk result (λ replies. IsShort replies.0) }
+    ensures fits { IfOk result (λ replies. FitsReply touched.new replies.0) }
     ensures few { most touched.new ≤ 4 }
     ensures unchanged { OnErr result (IsUnchanged meta.old meta.new) }
     ensures untouched { OnErr result (touched.new ≡ untouched) }
@@ -254,6 +256,7 @@ fn short_reply(
     ensures done { (s : State) (session : ℕ) → Stands meta.old s
         → IfOk result (λ reply. IfThere (step s place session call.now) (λ done. IsDone s done meta.new touched.new reply)) }
     ensures short { IfOk result IsShort }
+    ensures fits { IfOk result (FitsReply touched.new) }
     ensures few { most touched.new ≤ 4 }
     ensures unchanged { OnErr result (IsUnchanged meta.old meta.new) }
     ensures untouched { OnErr result (touched.new ≡ untouched) }

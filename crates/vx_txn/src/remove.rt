@@ -11,7 +11,7 @@ ghost use Rattle.vx_model.specs.Walks.{step_to};
 ghost use Rattle.vx_txn.specs.Calls.{HasGone, IsSettled, most};
 ghost use Rattle.vx_txn.specs.Metas.{Stands, IsSound, IsUnchanged};
 ghost use Rattle.vx_txn.specs.Removals.{links_of, unnamed, entry_of, unlink_at, rmdir_at, IsRootUsed};
-ghost use Rattle.vx_txn.specs.Replies.{IsShort};
+ghost use Rattle.vx_txn.specs.Replies.{FitsReply, IsShort};
 
 use crate::edits::{drop_node, remove_link, remove_name};
 use crate::meta::Meta;
@@ -35,6 +35,7 @@ pub fn unlink(
     requires empty { touched.old ≡ untouched }
     ensures done { (s : State) → Stands meta.old s → IfOk result (IsSettled s (unlink s place path.now) meta.new touched.new) }
     ensures short { IfOk result IsShort }
+    ensures fits { IfOk result (FitsReply touched.new) }
     ensures few { most touched.new ≤ 4 }
     ensures unchanged { OnErr result (IsUnchanged meta.old meta.new) }
     ensures untouched { OnErr result (touched.new ≡ untouched) }
@@ -52,6 +53,7 @@ fn unlink_along(meta: &mut Meta, names: &[Name], place: u64, touched: &mut Touch
     requires empty { touched.old ≡ untouched }
     ensures done { (s : State) → Stands meta.old s → IsSettled s (unlink_along s place names.now) meta.new touched.new result }
     ensures short { IsShort result }
+    ensures fits { FitsReply touched.new result }
     ensures few { most touched.new ≤ 4 }
 {
     match names.split_last() {
@@ -69,6 +71,7 @@ fn unlink_at(meta: &mut Meta, at: Ino, name: &Name, place: u64, touched: &mut To
     requires empty { touched.old ≡ untouched }
     ensures done { (s : State) → Stands meta.old s → IsSettled s (unlink_at s place at name.now) meta.new touched.new result }
     ensures short { IsShort result }
+    ensures fits { FitsReply touched.new result }
     ensures few { most touched.new ≤ 4 }
 {
     match step_to(meta, at, name) {
@@ -91,6 +94,7 @@ fn unlink_entry(
     requires empty { touched.old ≡ untouched }
     ensures done { (s : State) → Stands meta.old s → IsSettled s (unlink_entry s place (entry_of at name.now ino)) meta.new touched.new result }
     ensures short { IsShort result }
+    ensures fits { FitsReply touched.new result }
     ensures few { most touched.new ≤ 4 }
 {
     match links_of(meta, ino) {
@@ -157,6 +161,7 @@ pub fn rmdir(
     requires empty { touched.old ≡ untouched }
     ensures done { (s : State) → Stands meta.old s → IfOk result (IsSettled s (rmdir s place path.now) meta.new touched.new) }
     ensures short { IfOk result IsShort }
+    ensures fits { IfOk result (FitsReply touched.new) }
     ensures few { most touched.new ≤ 4 }
     ensures unchanged { OnErr result (IsUnchanged meta.old meta.new) }
     ensures untouched { OnErr result (touched.new ≡ untouched) }
@@ -174,6 +179,7 @@ fn rmdir_along(meta: &mut Meta, names: &[Name], place: u64, touched: &mut Touche
     requires empty { touched.old ≡ untouched }
     ensures done { (s : State) → Stands meta.old s → IsSettled s (rmdir_along s place names.now) meta.new touched.new result }
     ensures short { IsShort result }
+    ensures fits { FitsReply touched.new result }
     ensures few { most touched.new ≤ 4 }
 {
     match names.split_last() {
@@ -203,6 +209,7 @@ fn remove_directory(
     requires empty { touched.old ≡ untouched }
     ensures done { (s : State) → Stands meta.old s → IsSettled s (remove_directory s place (entry_of at name.now ino)) meta.new touched.new result }
     ensures short { IsShort result }
+    ensures fits { FitsReply touched.new result }
     ensures few { most touched.new ≤ 4 }
 {
     match directory_of(meta, ino) {

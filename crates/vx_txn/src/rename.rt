@@ -19,7 +19,7 @@ ghost use Rattle.vx_txn.specs.Directories.{DirectoryValue, IsNewIn};
 ghost use Rattle.vx_txn.specs.Metas.{Stands, IsSound, IsUnchanged, directory_of};
 ghost use Rattle.vx_txn.specs.Removals.{IsRootUsed};
 ghost use Rattle.vx_txn.specs.Renames.{rename_new, entry, move_of, move_along, kind_of, replaceable, put_over};
-ghost use Rattle.vx_txn.specs.Replies.{IsShort};
+ghost use Rattle.vx_txn.specs.Replies.{FitsReply, IsShort};
 
 use crate::directory::Directory;
 use crate::edits::{add_name, remove_name};
@@ -62,6 +62,7 @@ pub fn rename(
     requires empty { touched.old ≡ untouched }
     ensures done { (s : State) → Stands meta.old s → IfOk result (IsSettled s (rename s place old.now new.now) meta.new touched.new) }
     ensures short { IfOk result IsShort }
+    ensures fits { IfOk result (FitsReply touched.new) }
     ensures few { most touched.new ≤ 4 }
     ensures unchanged { OnErr result (IsUnchanged meta.old meta.new) }
     ensures untouched { OnErr result (touched.new ≡ untouched) }
@@ -86,6 +87,7 @@ fn rename_names(
     requires empty { touched.old ≡ untouched }
     ensures done { (s : State) → Stands meta.old s → IfOk result (IsSettled s (rename_new s place old.now new.now) meta.new touched.new) }
     ensures short { IfOk result IsShort }
+    ensures fits { IfOk result (FitsReply touched.new) }
     ensures few { most touched.new ≤ 4 }
     ensures unchanged { OnErr result (IsUnchanged meta.old meta.new) }
     ensures untouched { OnErr result (touched.new ≡ untouched) }
@@ -109,6 +111,7 @@ fn rename_along(
     requires empty { touched.old ≡ untouched }
     ensures done { (s : State) → Stands meta.old s → IfOk result (IsSettled s (rename_along s place old.now new.now) meta.new touched.new) }
     ensures short { IfOk result IsShort }
+    ensures fits { IfOk result (FitsReply touched.new) }
     ensures few { most touched.new ≤ 4 }
     ensures unchanged { OnErr result (IsUnchanged meta.old meta.new) }
     ensures untouched { OnErr result (touched.new ≡ untouched) }
@@ -147,6 +150,7 @@ fn move_along<'a>(
     requires empty { touched.old ≡ untouched }
     ensures done { (s : State) → Stands meta.old s → IfOk result (IsSettled s (move_along s place below new.now (entry from.now)) meta.new touched.new) }
     ensures short { IfOk result IsShort }
+    ensures fits { IfOk result (FitsReply touched.new) }
     ensures few { most touched.new ≤ 4 }
     ensures unchanged { OnErr result (IsUnchanged meta.old meta.new) }
     ensures untouched { OnErr result (touched.new ≡ untouched) }
@@ -182,6 +186,7 @@ fn move_to(
     requires empty { touched.old ≡ untouched }
     ensures done { (s : State) → Stands meta.old s → IfOk result (IsSettled s (move_to s place below (entry m.now.from) m.now.name.now m.now.to) meta.new touched.new) }
     ensures short { IfOk result IsShort }
+    ensures fits { IfOk result (FitsReply touched.new) }
     ensures few { most touched.new ≤ 4 }
     ensures unchanged { OnErr result (IsUnchanged meta.old meta.new) }
     ensures untouched { OnErr result (touched.new ≡ untouched) }
@@ -225,6 +230,7 @@ fn move_onto(
     ensures done { (s : State) (d : tree.Directory) (node : Node) → Stands meta.old s → directory_at s.tree.nodes m.now.to ≡ Ok d → map.get s.tree.nodes m.now.from.ino ≡ Some node
         → IfOk result (IsSettled s (move_onto s place (move_of m.now node) (map.get d.entries m.now.name.now)) meta.new touched.new) }
     ensures short { IfOk result IsShort }
+    ensures fits { IfOk result (FitsReply touched.new) }
     ensures few { most touched.new ≤ 4 }
     ensures unchanged { OnErr result (IsUnchanged meta.old meta.new) }
     ensures untouched { OnErr result (touched.new ≡ untouched) }
@@ -279,6 +285,7 @@ fn put_in(meta: &mut Meta, m: &Move<'_>, touched: &mut Touched) -> Result<Reply,
     ensures done { (s : State) (node : Node) → Stands meta.old s → map.get s.tree.nodes m.now.from.ino ≡ Some node
         → IfOk result (IsSettled s (enter (remove_name s m.now.from.at m.now.from.name.now) (move_of m.now node)) meta.new touched.new) }
     ensures short { IfOk result IsShort }
+    ensures fits { IfOk result (FitsReply touched.new) }
     ensures few { most touched.new ≤ 4 }
     ensures unchanged { OnErr result (IsUnchanged meta.old meta.new) }
     ensures untouched { OnErr result (touched.new ≡ untouched) }
@@ -316,6 +323,7 @@ fn put_over(
     ensures done { (s : State) (node old : Node) → Stands meta.old s → map.get s.tree.nodes m.now.from.ino ≡ Some node → map.get s.tree.nodes target ≡ Some old
         → IfOk result (IsSettled s (put_over s place (move_of m.now node) target old) meta.new touched.new) }
     ensures short { IfOk result IsShort }
+    ensures fits { IfOk result (FitsReply touched.new) }
     ensures few { most touched.new ≤ 4 }
     ensures unchanged { OnErr result (IsUnchanged meta.old meta.new) }
     ensures untouched { OnErr result (touched.new ≡ untouched) }

@@ -10,13 +10,14 @@ use Rattle.vx_model.specs.Allowed.{come_by, IsAllowed}
 use Rattle.vx_model.specs.AllowedLaws.{IsPlaced}
 use Rattle.vx_model.specs.Legal.{after_all}
 use Rattle.vx_model.specs.State.{fresh}
-use Rattle.vx_run.specs.Cores.{beginning, IsEnded, is_unmounted, TellsFaults}
+use Rattle.vx_run.specs.Cores.{beginning, CameBetween, IsEnded, is_unmounted, TellsFaults}
 use Rattle.vx_run.specs.Ends.{Setting, opened_on}
 use Rattle.vx_kernel.specs.Journals.{IsKept}
 use Rattle.vx_kernel.specs.Sizes.{new_log_blocks, new_log_sectors, superblock_of}
 use Rattle.vx_model.specs.Replays.{IsLeft}
 use Rattle.vx_run.proofs.Ending.{none_of, some_of, none_or_some, enabled_tells}
 use Rattle.vx_run.proofs.Scripts.{ended_unasked, all_built, all_modes}
+use Rattle.vx_run.proofs.Coming.{came_all, came_then}
 use Rattle.vx_run.proofs.Crashing.{live_formatted}
 use Rattle.vx_run.proofs.FaultOrder.{unfaulted}
 use Rattle.vx_run.proofs.top.worked.Goals as goal
@@ -119,6 +120,9 @@ returns-clause-ended g c =
       fine = λ off. tells.none (none_of c.unmount.new.self.disabled c.is_some.result c.is_some.ensures off);
       rose = λ on. tells.some (some_of c.unmount.new.self.disabled c.is_some.result c.is_some.ensures on);
       formatted = omega (arith, c.in-Ok-format.ensures.count, c.answer_all.ensures.onward.later, c.unmount.ensures.onward.later);
+      came = subst (λ (n : ℕ). All (CameBetween n (g.D.BlockDev.state c.unmount.new.dev).count) history) c.in-Ok-format.ensures.count
+          (came_all _ _ c.in-Ok-fresh.core.history.items history c.in-Ok-fresh.ensures.history
+          (came_then _ _ _ _ _ _ c.answer_all.ensures.onward.later c.unmount.ensures.onward.later c.answer_all.ensures.came c.unmount.ensures.came));
       crash = subst (λ (o : Opened). Told (g.D.BlockDev.state c.unmount.new.dev) (Always (o.operations + 70) (IsAllowed (beginning o) history))) opened c.unmount.ensures.allowed;
       clean = λ off. subst (λ (o : Opened). Told (g.D.BlockDev.state c.unmount.new.dev) (IsLeft o.sectors (after_all (beginning o) history).state.tree)) opened
           (c.unmount.ensures.clean (none_of c.unmount.new.self.disabled c.is_some.result c.is_some.ensures off));

@@ -9,6 +9,7 @@ use Rattle.vx_txn.specs.Links.{link_to}
 use Rattle.vx_txn.proofs.Lookups.{begun, stands_of, refused, done, file_of, file_links, node_used, apart, added_other, edited_to, refusal_settled, without_of}
 use Rattle.vx_txn.proofs.LinkLaws.{linked, too_many, one_more}
 use Rattle.vx_txn.proofs.Changes.{unchanged_stands}
+use Rattle.vx_txn.proofs.CallLaws.{reply_fits}
 use Rattle.vx_txn.proofs.link.link_in.Goals as goal
 
 pub returns-then-nlink-ge-MAX_LINKS-clause-done : goal.returns-then-nlink-ge-MAX_LINKS-clause-done
@@ -55,3 +56,6 @@ returns-in-Err-clause-done c = λ s stands.
     (unchanged_stands c.args.meta.now _ s c.in-Err.ensures.unchanged stands) (c.in-Err.ensures.untouched ∙ c.requires.empty)
     (λ why is. one_more s c.args.ino c.args.nlink c.args.at c.args.name.now (c.requires.file s stands) w c.if-nlink-ge-MAX_LINKS.false ∙ ap (λ (m : Maybe State). m >>= linked c.args.ino f.file) is)
     (c.in-Err.ensures.refused s stands) c.refused.ensures
+
+pub returns-in-Err-clause-fits : goal.returns-in-Err-clause-fits
+returns-in-Err-clause-fits c = reply_fits c.add_name.new.touched c.refused.result (c.in-Err.ensures.untouched ∙ c.requires.empty)

@@ -8,7 +8,7 @@ use Rattle.vx_txn.specs.Calls.{HasGone}
 use Rattle.vx_txn.specs.Directories.{IsNewIn}
 use Rattle.vx_txn.specs.Edits.{new_node}
 use Rattle.vx_txn.specs.Metas.{directory_of}
-use Rattle.vx_txn.proofs.CallLaws.{stays}
+use Rattle.vx_txn.proofs.CallLaws.{stays, reply_fits}
 use Rattle.vx_txn.proofs.Changes.{stands_of}
 use Rattle.vx_txn.proofs.MakingLaws.{made_settled, refusal_settled, full_settled, short_refusal, short_full, on_err, back_unchanged}
 use Rattle.vx_txn.proofs.NameEdits.{new_directory}
@@ -87,3 +87,9 @@ returns-in-Err-clause-short c = short_full c.in-Err.why c.full.result c.full.ens
 
 pub returns-in-Err-clause-unchanged : goal.returns-in-Err-clause-unchanged
 returns-in-Err-clause-unchanged c = on_err c.full.result c.in-Err.ensures.unchanged
+
+pub returns-in-Err-add_name-clause-fits : goal.returns-in-Err-add_name-clause-fits
+returns-in-Err-add_name-clause-fits c = reply_fits c.clear.new.self c.refused.result c.clear.ensures
+
+pub returns-in-Err-clause-fits : goal.returns-in-Err-clause-fits
+returns-in-Err-clause-fits c = reply_fits c.make_node.new.touched c.full.result (c.in-Err.ensures.untouched ∙ c.requires.empty)

@@ -11,6 +11,7 @@ use Rattle.vx_txn.proofs.Lookups.{begun, stands_of, sound_of, done, edited_to, r
 use Rattle.vx_txn.proofs.Changes.{unchanged_stands}
 use Rattle.vx_txn.proofs.MakingLaws.{short_refusal, on_err}
 use Rattle.vx_txn.proofs.Renaming.{removed_directory, removed_name, added_unnamed, back_twice, there_still}
+use Rattle.vx_txn.proofs.CallLaws.{reply_fits}
 use Rattle.vx_txn.proofs.rename.put_over.Goals as goal
 
 pub remove_name-requires-2-clause-directory : goal.remove_name-requires-2-clause-directory
@@ -136,3 +137,6 @@ returns-in-Err-clause-short c =
 
 pub returns-in-Err-clause-unchanged : goal.returns-in-Err-clause-unchanged
 returns-in-Err-clause-unchanged c = on_err c.refused.result (unchanged c)
+
+pub returns-in-Err-clause-fits : goal.returns-in-Err-clause-fits
+returns-in-Err-clause-fits c = reply_fits c.clear.new.self c.refused.result c.clear.ensures

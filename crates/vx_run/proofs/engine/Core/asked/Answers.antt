@@ -1,12 +1,13 @@
-use Rattle.std.proofs.Common.{◌≡◌, true, false, length, sym, ◌∙◌, ap, subst}
+use Rattle.std.proofs.Common.{◌≡◌, true, false, length, refl, sym, ◌∙◌, ap, subst}
 use Rattle.vx_base.specs.declared.reply.Reply.{Reply}
 use Rattle.vx_model.specs.State.{State}
 use Rattle.vx_run.specs.Cores.{TellsFaults}
 use Rattle.vx_run.specs.Faults.{AreInOrder, ReplyInOrder}
 use Rattle.vx_run.specs.declared.engine.Core.{Core}
 use Rattle.vx_run.proofs.Asking.{asked_of, core_short, enabled_by, asked_stopped}
-use Rattle.vx_run.proofs.FaultOrder.{reply_in_order}
+use Rattle.vx_run.proofs.FaultOrder.{reply_in_order, fits_memory, fits_released, fits_stopped}
 use Rattle.vx_run.proofs.Releasing.{none_waited}
+use Rattle.vx_run.proofs.Coming.{came_none, came_on}
 use Rattle.vx_run.proofs.engine.Core.asked.Goals as goal
 use Rattle.vx_run.proofs.engine.Core.asked.Goals.{then-not-is_no_space-via-then-not-is_no_space, then-not-is_no_space-via-else-not-is_no_space+then-not-has_pending}
 
@@ -17,7 +18,7 @@ returns-then-not-is_no_space-clause-asked g c =
     asked_of (g.D.BlockDev.state c.args.dev.now) c.args.self.now c.replies-reply.new.self is.state c.args.call.now c.replies-reply.result.0 is.base c.replies-reply.ensures.same done c.replies-reply.ensures.disabled
     (λ short. elim c.then-not-is_no_space.branch [
       | then-not-is_no_space-via-then-not-is_no_space w ↦ absurd (let wrong : false ≡ true = w.if-not-is_no_space.ensures ∙ short in cc)
-      | then-not-is_no_space-via-else-not-is_no_space+then-not-has_pending w ↦ none_waited (length c.args.self.now.history.items) is.state done.new done.waits (w.has_pending.ensures done.new done.meta w.if-not-has_pending.true)
+      | then-not-is_no_space-via-else-not-is_no_space+then-not-has_pending w ↦ none_waited (length c.args.self.now.history.items) is.state done.new done.waits (w.has_pending.ensures.none done.new done.meta w.if-not-has_pending.true)
     ])
 
 pub returns-then-not-is_no_space-clause-order : goal.returns-then-not-is_no_space-clause-order
@@ -71,3 +72,26 @@ returns-clause-order g c = λ before.
 pub returns-clause-faults : goal.returns-clause-faults
 returns-clause-faults g c = λ before tells.
     c.release_all.ensures.faults before (subst (λ (x : Core). TellsFaults before (g.D.BlockDev.state c.args.dev.now).write_faults x.disabled) (sym c.replies-reply.ensures.same) tells)
+
+pub returns-then-not-is_no_space-clause-came : goal.returns-then-not-is_no_space-clause-came
+returns-then-not-is_no_space-clause-came g c = came_none _ _ _ _ (ap (λ (x : Core). x.history.items) c.replies-reply.ensures.same)
+
+pub returns-in-Ok-clause-came : goal.returns-in-Ok-clause-came
+returns-in-Ok-clause-came g c =
+    came_on _ _ _ _ _ _ c.release_all.ensures.came (ap (λ (x : Core). x.history.items) c.replies-reply.ensures.same) (ap (λ (x : Core). x.history.items) c.replies.ensures.same)
+
+pub returns-clause-came : goal.returns-clause-came
+returns-clause-came g c = came_on _ _ _ _ _ _ c.release_all.ensures.came (ap (λ (x : Core). x.history.items) c.replies-reply.ensures.same) refl
+
+pub returns-then-not-is_no_space-clause-fits : goal.returns-then-not-is_no_space-clause-fits
+returns-then-not-is_no_space-clause-fits g c = fits_memory c.args.self.now.disabled _ c.replies-reply.result.0 c.replies-reply.ensures.fits (ap (λ (x : Core). x.disabled) c.replies-reply.ensures.same)
+
+pub returns-in-Ok-clause-fits : goal.returns-in-Ok-clause-fits
+returns-in-Ok-clause-fits g c =
+    let before = enabled_by c.args.self.now.disabled c.replies-reply.result.0 c.replies-reply.ensures.fits (sym c.if-not-is_no_space.ensures) in
+    fits_released c.args.self.now.disabled c.release_all.new.self.disabled _ c.replies.result.0 before c.in-Ok.ensures.enabled c.replies.ensures.fits (ap (λ (x : Core). x.disabled) c.replies.ensures.same)
+
+pub returns-clause-fits : goal.returns-clause-fits
+returns-clause-fits g c =
+    let before = enabled_by c.args.self.now.disabled c.replies-reply.result.0 c.replies-reply.ensures.fits (sym c.if-not-is_no_space.ensures) in
+    fits_stopped c.args.self.now.disabled c.release_all.new.self.disabled c.twice.result.0 before c.in-Err.ensures.disabled c.twice.ensures.first

@@ -1,4 +1,5 @@
-use Rattle.std.proofs.Common.{◌≡◌, ◌⊎◌, Some, None, sym, inl, append-nil, ap, ◌∙◌, subst, arith, rules}
+use Rattle.std.proofs.Common.{◌≡◌, ◌⊎◌, Some, None, refl, sym, inl, append-nil, ap, ◌∙◌, subst, arith, rules}
+use Rattle.vx_base.specs.declared.event.Event.TheVariants as event
 use Rattle.vx_log.specs.Moments.{Told}
 use Rattle.vx_log.proofs.Passing.{passed_weaker}
 use Rattle.vx_model.specs.Legal.{with_released}
@@ -8,6 +9,7 @@ use Rattle.vx_txn.specs.Metas.{IsStateOf}
 use Rattle.vx_kernel.specs.declared.journal.Journal.{Journal}
 use Rattle.vx_run.specs.declared.engine.Core.{Core}
 use Rattle.vx_run.proofs.Carrying.{change_of, passed_both, kept_as, inside_of}
+use Rattle.vx_run.proofs.Coming.{came_none, came_one}
 use Rattle.vx_run.proofs.engine.Core.carry.Goals as goal
 use Rattle.vx_run.proofs.engine.Core.carry.Goals.{then-branch, else-branch}
 
@@ -75,3 +77,13 @@ stage-requires-clause-sound g c = record { state = c.requires.sound.0; stands = 
 pub commit-requires-clause-inside : goal.commit-requires-clause-inside
 commit-requires-clause-inside g c =
     inside_of c.requires.sound.0 c.requires.sound.1 c.stage.new.batch (c.stage.ensures.inside c.requires.sound.0 (record { laid_out = c.requires.sound.1.laid_out; is = c.requires.sound.2 }))
+
+pub returns-in_err-make_room-clause-came : goal.returns-in_err-make_room-clause-came
+returns-in_err-make_room-clause-came g c = came_none _ _ _ _ refl
+
+pub returns-clause-came : goal.returns-clause-came
+returns-clause-came g c = elim c.if-branch.branch [
+  | then-branch w ↦ came_one _ _ _ _ (event.Release w.ops.result c.args.place) (ap (λ (x : Core). x.history.items) w.self-is ∙ w.release.ensures.history)
+      (omega (arith, w.ops.ensures.number, c.make_room.ensures.onward.later)) (omega (arith, w.ops.ensures.number, c.commit.ensures.onward.later))
+  | else-branch w ↦ came_none _ _ _ _ (ap (λ (x : Core). x.history.items) w.self-is)
+]

@@ -2,7 +2,7 @@ use Rattle.std.proofs.Common.{◌≡◌, ◌⊎◌, ◌+◌, ℕ, ◌++◌, ◌�
 use Rattle.vx_base.specs.declared.event.Event.{Event}
 use Rattle.vx_base.specs.declared.event.Event.TheVariants as event
 use Rattle.vx_base.specs.declared.reply.Reply.{Reply}
-use Rattle.vx_model.specs.Legal.{is_fault}
+use Rattle.vx_model.specs.Legal.{tells_failed_write}
 use Rattle.vx_model.specs.Waiting.{Waits}
 use Rattle.vx_run.specs.Cores.{IsUntouched, IsCarried, releases, released_by}
 use Rattle.vx_run.specs.Faults.{FitsDevice}
@@ -10,6 +10,7 @@ use Rattle.vx_run.specs.declared.engine.Core.{Core}
 use Rattle.vx_run.proofs.FaultOrder.{order_noted}
 use Rattle.vx_run.proofs.Histories.{few_releases}
 use Rattle.vx_run.proofs.Noting.{IsNoted, noted_of, base_noted}
+use Rattle.vx_run.proofs.Coming.{came_one, came_then}
 use Rattle.vx_run.proofs.engine.Core.noted.Goals as goal
 
 pub push_reserved-requires-2 : goal.push_reserved-requires-2
@@ -53,7 +54,7 @@ returns-clause-core g c =
           _ is c.push_reserved.ensures.items
           (c.push_reserved-2.ensures.items ∙ ap (λ (n : ℕ). after.history.items ++ event.Ret c.ops-at-2.result n answer ∷ []) place)
           c.durable-answer.ensures.opened refl refl c.durable-answer.ensures.rest c.durable-answer.ensures.head
-          (subst (λ (r : Reply). (answer ≡ r) ⊎ (is_fault answer ≡ true)) c.requires.copy c.durable-answer.ensures.answer);
+          (subst (λ (r : Reply). (answer ≡ r) ⊎ (tells_failed_write answer ≡ true)) c.requires.copy c.durable-answer.ensures.answer);
       meta = is.meta;
       touched = c.clear.ensures;
     }
@@ -68,6 +69,7 @@ returns-clause-noted g c =
       c.durable-answer.result,
       c.len-place.result,
       c.len-place.result,
+      subst (λ (r : Reply). FitsDevice c.args.self.now.disabled c.durable-answer.new.self.disabled (g.D.BlockDev.state c.durable-answer.new.dev) r c.durable-answer.result) c.requires.copy c.durable-answer.ensures.fits,
       c.push_reserved-2.ensures.items ∙ ap (λ (es : List Event). es ++ e ∷ []) (more.1 ∙ ap (λ (es : List Event). es ++ releases more.0 c.len-place.result) c.push_reserved.ensures.items),
     )
 
@@ -83,3 +85,15 @@ returns-clause-order g c = λ before.
     order_noted core.history.items c.push_reserved.new.self.items after.history.items c.push_reserved-2.new.self.items c.ops-at.result c.ops-at-2.result c.args.line c.len-place.result c.args.call c.args.reply answer
     c.push_reserved.ensures.items c.push_reserved-2.ensures.items core.disabled after.disabled d d2 more.0 c.len-place.result more.1 fits c.ops-at.ensures.number c.ops-at-2.ensures.number
     (λ some. let is = c.durable-answer.ensures.untouched (inr some) in (is.device, ap (λ (x : Core). x.history.items) is.core)) before
+
+pub returns-clause-came : goal.returns-clause-came
+returns-clause-came g c =
+    let a = (g.D.BlockDev.state c.args.dev.now).count in
+    let b = (g.D.BlockDev.state c.durable-answer.new.dev).count in
+    let first : Event = event.Do c.ops-at.result 0 c.args.line c.args.call c.args.reply in
+    let last : Event = event.Ret c.ops-at-2.result c.len-place.result c.durable-answer.result in
+    came_then a b b _ _ _ c.durable-answer.ensures.onward.later (omega arith)
+    (came_then a a b _ _ _ (omega arith) c.durable-answer.ensures.onward.later
+    (came_one a a c.args.self.now.history.items c.push_reserved.new.self.items first c.push_reserved.ensures.items (omega (arith, c.ops-at.ensures.number)) (omega (arith, c.ops-at.ensures.number)))
+    c.durable-answer.ensures.came)
+    (came_one b b c.durable-answer.new.self.history.items c.push_reserved-2.new.self.items last c.push_reserved-2.ensures.items (omega (arith, c.ops-at-2.ensures.number)) (omega (arith, c.ops-at-2.ensures.number)))

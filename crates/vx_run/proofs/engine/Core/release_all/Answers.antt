@@ -1,4 +1,4 @@
-use Rattle.std.proofs.Common.{◌≡◌, ℕ, ◌++◌, ◌∷◌, [], Some, refl, sym, ◌∙◌, ap, subst}
+use Rattle.std.proofs.Common.{◌≡◌, ℕ, arith, ◌++◌, ◌∷◌, [], Some, refl, sym, ◌∙◌, ap, subst}
 use Rattle.vx_base.specs.declared.event.Event.TheVariants as event
 use Rattle.vx_log.specs.Moments.{Told}
 use Rattle.vx_model.specs.Legal.{with_released}
@@ -7,6 +7,7 @@ use Rattle.vx_run.specs.declared.engine.Core.{Core}
 use Rattle.vx_kernel.specs.declared.journal.Journal.{Journal}
 use Rattle.vx_run.proofs.Bases.{base_released, base_stopped, free_now}
 use Rattle.vx_run.proofs.Crashing.{kept_live}
+use Rattle.vx_run.proofs.Coming.{came_none, came_one}
 use Rattle.vx_run.proofs.engine.Core.release_all.Goals as goal
 
 pub returns-in-Ok-clause-core : goal.returns-in-Ok-clause-core
@@ -59,3 +60,12 @@ returns-in-Err-clause-core g c =
       meta = is.meta;
       touched = is.touched;
     }
+
+pub returns-in-Ok-clause-came : goal.returns-in-Ok-clause-came
+returns-in-Ok-clause-came g c = came_one _ _ _ _ (event.Release c.ops.result c.len-upto.result) c.release.ensures.history (omega (arith, c.ops.ensures.number, c.empty.ensures.onward.later)) (omega (arith, c.ops.ensures.number))
+
+pub returns-in-Err-clause-came : goal.returns-in-Err-clause-came
+returns-in-Err-clause-came g c = came_none _ _ _ _ refl
+
+pub returns-in-Ok-clause-enabled : goal.returns-in-Ok-clause-enabled
+returns-in-Ok-clause-enabled g c = ap (λ (x : Core). x.disabled) c.release.ensures.same ∙ c.requires.enabled

@@ -2,6 +2,7 @@ use Rattle.std.proofs.Common.{◌≡◌, ◌+◌, ℕ, List, length, arith, ap, 
 use Rattle.std.specs.Prelude.{is_none, IfSome}
 use Rattle.std.proofs.Common.{Some, refl}
 use Rattle.vx_base.specs.declared.event.Event.{Event}
+use Rattle.vx_base.specs.declared.event.Event.TheVariants as event
 use Rattle.vx_log.specs.Moments.{Told, Always, Passed}
 use Rattle.vx_model.specs.Allowed.{IsAllowed}
 use Rattle.vx_model.specs.Legal.{after_all}
@@ -13,6 +14,7 @@ use Rattle.vx_run.proofs.Crashing.{told_stopped, told_failed, told_unmounted, st
 use Rattle.vx_run.proofs.Ending.{none_of, some_of}
 use Rattle.vx_run.proofs.FaultOrder.{end_here, end_unmounted, end_unmounting}
 use Rattle.vx_run.proofs.Histories.{ended_unmounted, left_clean, lines_unmounted}
+use Rattle.vx_run.proofs.Coming.{came_none, came_one}
 use Rattle.vx_run.proofs.engine.Core.unmount.Goals as goal
 
 pub returns-in-Ok-clause-ended : goal.returns-in-Ok-clause-ended
@@ -87,3 +89,12 @@ pub returns-in-Err-clause-order : goal.returns-in-Err-clause-order
 returns-in-Err-clause-order g c =
     end_unmounting c.args.self.now.disabled (Some c.write_faults.result) c.write_faults.result (g.D.BlockDev.state c.args.dev.now) (g.D.BlockDev.state c.unmount.new.dev) c.args.self.now.history.items
     (none_of c.args.self.now.disabled c.is_some.result c.is_some.ensures c.if-is_some.false) refl c.write_faults.ensures
+
+pub returns-then-is_some-clause-came : goal.returns-then-is_some-clause-came
+returns-then-is_some-clause-came g c = came_none _ _ _ _ refl
+
+pub returns-in-Ok-clause-came : goal.returns-in-Ok-clause-came
+returns-in-Ok-clause-came g c = came_one _ _ _ _ (event.Unmounted c.ops-at.result) c.push_reserved.ensures.items (omega (arith, c.ops-at.ensures.number, c.unmount.ensures.onward.later)) (omega (arith, c.ops-at.ensures.number))
+
+pub returns-in-Err-clause-came : goal.returns-in-Err-clause-came
+returns-in-Err-clause-came g c = came_none _ _ _ _ refl
