@@ -25,12 +25,6 @@ fn disk(alloc: Global, fail_writes: &[u64], fail_reads: &[u64]) -> Result<MemDis
     )
 }
 
-/// A disk of so many sectors of zeros, without faults.
-fn zeros_of(alloc: Global, sectors: u64) -> Result<MemDisk, AllocError> {
-    let image = Image::zeroed(alloc, sectors)?;
-    MemDisk::new(alloc, image, 200, NumList::new(alloc), NumList::new(alloc))
-}
-
 /// A new file system with one transaction, which is not unmounted.
 fn stopped(alloc: Global, fail_writes: &[u64], fail_reads: &[u64]) -> Result<MemDisk, Fail> {
     let mut disk = disk(alloc, fail_writes, fail_reads)?;
@@ -72,109 +66,141 @@ fn replay_and_again(rt: HostRuntime) -> Result<(), Fail> {
     let first = check(rt.alloc(), &["fsck", "disk.img"], 64, disk)?;
     // A barrier, the home, a barrier, the head sector, a barrier, the superblock, a barrier.
     assert!(rt; ended(&first, 0, b"replayed 1 1 0\n", STOPPED + 7));
-    let again = check(rt.alloc(), &["fsck", "disk.img"], 64, first.dev)?;
+    let mut again = check(rt.alloc(), &["fsck", "disk.img"], 64, first.dev)?;
     assert!(rt; ended(&again, 0, b"clean\n", STOPPED + 7));
+    again.dev.write(2, &[0; 512])?;
+    let last = check(rt.alloc(), &["fsck", "disk.img"], 64, again.dev)?;
+    assert!(rt; ended(&last, 2, b"refused 2 BadLog 2\n", STOPPED + 8));
     Ok(())
 }
 
-#[test]
-fn full_sink(rt: HostRuntime) -> Result<(), Fail> {
-    let disk = stopped(rt.alloc(), &[], &[])?;
-    let seen = check(rt.alloc(), &["fsck", "disk.img"], 4, disk)?;
-    assert!(rt; ended(&seen, 5, b"repl", STOPPED + 7));
-    Ok(())
-}
-
-/// The home, which is the second operation of the replay, fails.
-#[test]
-fn failing_write(rt: HostRuntime) -> Result<(), Fail> {
-    let disk = stopped(rt.alloc(), &[STOPPED + 2], &[])?;
-    let seen = check(rt.alloc(), &["fsck", "disk.img"], 64, disk)?;
-    assert!(rt; ended(&seen, 4, b"refused 4 WriteFault\n", STOPPED + 2));
-    Ok(())
+/// A write, a read or a sink that fails as a stopped image is replayed.
+#[derive(Clone, Copy)]
+struct Fault {
+    /// The write that fails, or none that comes.
+    write: u64,
+    /// The read that fails, or none that comes.
+    read: u64,
+    /// The bytes that the sink takes.
+    room: u32,
+    status: u8,
+    line: &'static [u8],
+    ops: u64,
 }
 
 #[test]
-fn failing_read(rt: HostRuntime) -> Result<(), Fail> {
-    let disk = stopped(rt.alloc(), &[], &[2])?;
-    let seen = check(rt.alloc(), &["fsck", "disk.img"], 64, disk)?;
-    assert!(rt; ended(&seen, 8, b"refused 8 ReadFault\n", STOPPED));
+fn faults(rt: HostRuntime) -> Result<(), Fail> {
+    let rows = [
+        // The home, which is the second operation of the replay.
+        Fault {
+            write: STOPPED + 2,
+            read: 999,
+            room: 64,
+            status: 4,
+            line: b"refused 4 WriteFault\n",
+            ops: STOPPED + 2,
+        },
+        Fault {
+            write: 999,
+            read: 2,
+            room: 64,
+            status: 8,
+            line: b"refused 8 ReadFault\n",
+            ops: STOPPED,
+        },
+        Fault {
+            write: 999,
+            read: 999,
+            room: 4,
+            status: 5,
+            line: b"repl",
+            ops: STOPPED + 7,
+        },
+    ];
+    for row in rows {
+        let disk = stopped(rt.alloc(), &[row.write], &[row.read])?;
+        let seen = check(rt.alloc(), &["fsck", "disk.img"], row.room, disk)?;
+        assert!(rt; ended(&seen, row.status, row.line, row.ops));
+    }
     Ok(())
+}
+
+/// What comes of words and a device of zeros.
+#[derive(Clone, Copy)]
+struct Asked {
+    words: &'static [&'static str],
+    sectors: u64,
+    status: u8,
+    line: &'static [u8],
+    ops: u64,
 }
 
 #[test]
 fn zeros(rt: HostRuntime) -> Result<(), Fail> {
-    let zeros = disk(rt.alloc(), &[], &[])?;
-    let seen = check(rt.alloc(), &["fsck", "disk.img"], 64, zeros)?;
-    assert!(rt; ended(&seen, 2, b"refused 2 BadSuper 1\n", 0));
-    Ok(())
-}
-
-#[test]
-fn no_head_sector(rt: HostRuntime) -> Result<(), Fail> {
-    let mut disk = disk(rt.alloc(), &[], &[])?;
-    format(&mut disk)?;
-    disk.write(2, &[0; 512])?;
-    let seen = check(rt.alloc(), &["fsck", "disk.img"], 64, disk)?;
-    assert!(rt; ended(&seen, 2, b"refused 2 BadLog 2\n", 71));
-    Ok(())
-}
-
-#[test]
-fn make_and_check(rt: HostRuntime) -> Result<(), Fail> {
-    let zeros = zeros_of(rt.alloc(), 9_220)?;
-    let made = check(rt.alloc(), &["mkfs", "disk.img"], 64, zeros)?;
-    assert!(rt; ended(&made, 0, b"made 1 512\n", 70));
-    let seen = check(rt.alloc(), &["fsck", "disk.img"], 64, made.dev)?;
-    assert!(rt; ended(&seen, 0, b"clean\n", 70));
-    Ok(())
-}
-
-#[test]
-fn one_sector_too_few(rt: HostRuntime) -> Result<(), Fail> {
-    let zeros = zeros_of(rt.alloc(), 9_219)?;
-    let seen = check(rt.alloc(), &["mkfs", "disk.img"], 64, zeros)?;
-    assert!(rt; ended(&seen, 2, b"refused 2 DeviceTooSmall 9219 9220\n", 0));
-    Ok(())
-}
-
-#[test]
-fn two_units(rt: HostRuntime) -> Result<(), Fail> {
-    let words: &[&str] = &["mkfs", "disk.img", "--units", "2", "--log", "256"];
-    let zeros = zeros_of(rt.alloc(), 16_900)?;
-    let made = check(rt.alloc(), words, 64, zeros)?;
-    assert!(rt; ended(&made, 0, b"made 2 256\n", 136));
-    let turned: &[&str] = &["mkfs", "disk.img", "--log", "256", "--units", "2"];
-    let small = zeros_of(rt.alloc(), 16_899)?;
-    let seen = check(rt.alloc(), turned, 64, small)?;
-    assert!(rt; ended(&seen, 2, b"refused 2 DeviceTooSmall 16899 16900\n", 0));
-    Ok(())
-}
-
-/// The seventieth operation, which is the last barrier, fails.
-#[test]
-fn failing_format(rt: HostRuntime) -> Result<(), Fail> {
-    let zeros = disk(rt.alloc(), &[70], &[])?;
-    let seen = check(rt.alloc(), &["mkfs", "disk.img"], 64, zeros)?;
-    assert!(rt; ended(&seen, 4, b"refused 4 WriteFault\n", 69));
-    Ok(())
-}
-
-#[test]
-fn bad_words(rt: HostRuntime) -> Result<(), Fail> {
-    let mut zeros = disk(rt.alloc(), &[], &[])?;
-    let lists: [&[&str]; 6] = [
-        &["fsck"],
-        &["label", "disk.img"],
-        &["fsck", "disk.img", "--log", "512"],
-        &["mkfs", "disk.img", "--units"],
-        &["mkfs", "disk.img", "--units", "65"],
-        &["mkfs", "disk.img", "--log", "512", "--units", "02"],
+    let rows = [
+        Asked {
+            words: &["fsck", "disk.img"],
+            sectors: 8,
+            status: 2,
+            line: b"refused 2 BadSuper 1\n",
+            ops: 0,
+        },
+        Asked {
+            words: &["mkfs", "disk.img"],
+            sectors: 9_219,
+            status: 2,
+            line: b"refused 2 DeviceTooSmall 9219 9220\n",
+            ops: 0,
+        },
+        Asked {
+            words: &["mkfs", "disk.img"],
+            sectors: 9_220,
+            status: 0,
+            line: b"made 1 512\n",
+            ops: 70,
+        },
+        Asked {
+            words: &["mkfs", "disk.img", "--units", "2", "--log", "256"],
+            sectors: 16_900,
+            status: 0,
+            line: b"made 2 256\n",
+            ops: 136,
+        },
+        Asked {
+            words: &["fsck"],
+            sectors: 8,
+            status: 1,
+            line: b"refused 1 BadWords\n",
+            ops: 0,
+        },
+        Asked {
+            words: &["fsck", "disk.img", "--log", "512"],
+            sectors: 8,
+            status: 1,
+            line: b"refused 1 BadWords\n",
+            ops: 0,
+        },
+        Asked {
+            words: &["mkfs", "disk.img", "--units", "65"],
+            sectors: 8,
+            status: 1,
+            line: b"refused 1 BadWords\n",
+            ops: 0,
+        },
+        Asked {
+            words: &["mkfs", "disk.img", "--log", "256", "--units", "02"],
+            sectors: 8,
+            status: 1,
+            line: b"refused 1 BadWords\n",
+            ops: 0,
+        },
     ];
-    for words in lists {
-        let seen = check(rt.alloc(), words, 64, zeros)?;
-        assert!(rt; ended(&seen, 1, b"refused 1 BadWords\n", 0));
-        zeros = seen.dev;
+    for row in rows {
+        let image = Image::zeroed(rt.alloc(), row.sectors)?;
+        let none = NumList::new(rt.alloc());
+        let disk = MemDisk::new(rt.alloc(), image, 200, none, NumList::new(rt.alloc()))?;
+        let seen = check(rt.alloc(), row.words, 64, disk)?;
+        assert!(rt; ended(&seen, row.status, row.line, row.ops));
     }
     Ok(())
 }

@@ -1,8 +1,8 @@
 -- What a device reads as once it is formatted.
-use Rattle.std.proofs.Common.{◌≡◌, ℕ, ◌+◌, ◌<◌, ◌≤◌, Bool, true, false, cond, List, [], refl, sym, ap, subst, ◌∙◌, arith, inl, inr, lit<, lit≤}
+use Rattle.std.proofs.Common.{◌≡◌, ℕ, ◌≤◌, Bool, true, false, cond, List, [], refl, ap, ◌∙◌, arith, inl, inr, lit<, lit≤}
 use Rattle.std.specs.Prelude.{◌||◌, ◌==◌, IsTrue, Result, Ok, Err, OnOk}
 use Rattle.std.proofs.lemmas.Bool.{eqb-true, ne_eqb}
-use Rattle.vx_dev.specs.Tape.{Tape, State, MayHold, now}
+use Rattle.vx_dev.specs.Tape.{Tape, State, now}
 use Rattle.vx_layout.specs.LogForms.{IsHomeSector, LogState}
 use Rattle.vx_layout.specs.Supers.{IsSuper, super_bytes}
 use Rattle.vx_log.specs.Logs.{fresh_log}

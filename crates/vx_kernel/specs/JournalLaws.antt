@@ -1,5 +1,5 @@
 -- What a journal rests on: laws of the tape, of the log and of images, as it uses them.
-use Rattle.std.specs.Prelude.{◌≡◌, ◌≢◌, ◌⊎◌, ◌<◌, ◌≤◌, ◌+◌, option_map, ℕ, Bool, false, IsTrue, List, length, Contains}
+use Rattle.std.specs.Prelude.{◌≡◌, ◌≢◌, ◌⊎◌, ◌<◌, ◌≤◌, ◌+◌, option_map, ℕ, Bool, IsTrue, List, length, Contains}
 use Rattle.std.specs.List.{AllByRecursion}
 use Rattle.std.specs.List.Sorted.{IsStrictlyIncreasing}
 use Rattle.vx_dev.specs.declared.device.Operation.{Operation}
@@ -8,7 +8,7 @@ use Rattle.vx_dev.specs.Laws.{TapeLaws}
 use Rattle.vx_dev.specs.Tape.{Tape, State as Device, Writes, did, IsImage}
 use Rattle.vx_layout.specs.LogForms.{AfterImage, IsNameable, IsRecord, LogState, ReadsAs, log_length, body_of, records_of, overlay, overlay_all}
 use Rattle.vx_layout.specs.Dirs.{dir_bytes}
-use Rattle.vx_layout.specs.Places.{Volume, is_data, block_sector, sector_part}
+use Rattle.vx_layout.specs.Places.{is_data, block_sector, sector_part}
 use Rattle.vx_log.specs.Batches.{sectors_of}
 use Rattle.vx_log.specs.Crashes.{Stands, IsDecided, IsFree}
 use Rattle.vx_log.specs.Moments.{Told, Passed}

@@ -1,5 +1,5 @@
 -- What a device would hold after a barrier, as it is formatted.
-use Rattle.std.proofs.Common.{◌≡◌, ◌≢◌, ◌⊎◌, ℕ, ◌+◌, ◌<◌, List, Option, Some, None, refl, sym, subst, arith, inl, inr, true, ◌≤◌, lit<, lit≤}
+use Rattle.std.proofs.Common.{◌≡◌, ◌≢◌, ◌⊎◌, ℕ, ◌+◌, ◌<◌, List, Option, Some, None, sym, subst, arith, inl, inr, true, ◌≤◌, lit<, lit≤}
 use Rattle.std.specs.Prelude.{IfSome, option_map, Result, Ok, Err, OnOk}
 use Rattle.std.proofs.lemmas.Bool.{cases_eq}
 use Rattle.vx_dev.specs.declared.device.Operation.{Operation}

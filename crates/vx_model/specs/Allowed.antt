@@ -45,8 +45,9 @@ pub record HoldsDurable (history : List Event) (m k : ℕ) : Type 0 where
       → IfSome (call_at history place) (λ c. is_durable c ≡ true → place < k)
   pub unmounted : (at place : ℕ) → slice_get history place ≡ Some (event.Unmounted at) → at ≤ m → place < k
 
--- What a crash may leave when the device has done m operations: an image that replays, on the device of the opening state, as a tree whose names and attributes
--- are those after the first events of the history, as many as are durable or more, and no more than had come.
+-- What a crash may leave when the device has done m operations: an image that replays, on the device of the opening state, as a
+-- tree whose names and attributes are those after the first events of the history, as many as are durable or more, and no more
+-- than had come.
 pub record IsAllowed (opening : World) (history : List Event) (m : ℕ) (image : ℕ → List ℕ) : Type 0 where
   pub tree : Tree
   pub replays : ReplaysAs opening.state.layout.device_sectors image tree

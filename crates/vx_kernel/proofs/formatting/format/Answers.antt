@@ -1,4 +1,4 @@
-use Rattle.std.proofs.Common.{◌≡◌, ◌+◌, ◌<◌, ◌≤◌, false, subst, sym, lit≤, arith}
+use Rattle.std.proofs.Common.{◌≡◌, ◌+◌, ◌<◌, ◌≤◌, false, subst, sym}
 use Rattle.vx_layout.specs.declared.superblock.Super.{Super}
 use Rattle.vx_layout.specs.Places.{sectors_of}
 use Rattle.vx_layout.specs.Supers.{IsSuper, volume_of}
@@ -10,7 +10,7 @@ use Rattle.vx_kernel.proofs.Formatted.{new_parsed, is_super, told_kept, on_ok}
 use Rattle.vx_kernel.proofs.formatting.format.Goals as goal
 
 pub make-requires-clause-is : goal.make-requires-clause-is
-make-requires-clause-is g c = subst IsSuper (sym c.superblock-mounted.ensures) (is_super false)
+make-requires-clause-is g c = subst IsSuper (sym c.superblock-mounted.ensures) (is_super _)
 
 pub make-requires-clause-size : goal.make-requires-clause-size
 make-requires-clause-size g c = subst (λ (v : Super). sectors_of (volume_of v) ≤ (g.D.BlockDev.state c.args.dev.now).size) (sym c.superblock-mounted.ensures) c.requires

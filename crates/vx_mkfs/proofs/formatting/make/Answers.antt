@@ -1,4 +1,4 @@
-use Rattle.std.proofs.Common.{ℕ, List, subst, refl}
+use Rattle.std.proofs.Common.{ℕ, List, subst}
 use Rattle.vx_dev.specs.declared.device.Operation.TheVariants.{Put}
 use Rattle.vx_dev.specs.Tape.{Did}
 use Rattle.vx_mkfs.proofs.Formatted.{formatted, left, on_ok}
