@@ -10,7 +10,7 @@ use Rattle.vx_layout.specs.LogForms.{IsHomeSector, LogState, head_sector}
 use Rattle.vx_layout.specs.Places.{Volume}
 use Rattle.vx_layout.specs.Supers.{super_bytes}
 use Rattle.vx_log.specs.Logs.{fresh_log}
-use Rattle.vx_log.specs.Moments.{Told}
+use Rattle.vx_dev.specs.Moments.{Told}
 use Rattle.vx_model.specs.Contents.{parsed_of, IsFormatted}
 use Rattle.vx_model.specs.Images as model
 use Rattle.vx_model.specs.Images.{Parsed, is_metadata, contents, zero_sector}

@@ -12,8 +12,8 @@ use Rattle.vx_layout.specs.Places.{Volume, is_data, block_sector, sector_part}
 use Rattle.vx_layout.specs.Supers.{volume_of}
 use Rattle.vx_log.specs.Batches.{sectors_of}
 use Rattle.vx_log.specs.Crashes.{Stands, IsDecided, IsFree}
-use Rattle.vx_log.specs.Moments.{Told, Passed}
-use Rattle.vx_log.specs.Runs.{Ran, BrokeOff, puts}
+use Rattle.vx_dev.specs.Moments.{Told, Passed}
+use Rattle.vx_dev.specs.Runs.{Ran, BrokeOff, puts}
 use Rattle.vx_log.specs.Stages.{AreHomes, AreWritten}
 use Rattle.vx_model.specs.Contents.{parsed_of}
 use Rattle.vx_model.specs.Layout.{volume}
@@ -23,7 +23,7 @@ use Rattle.vx_model.specs.LaidOut.{IsLaidOut}
 use Rattle.vx_model.specs.Legal.{with_released}
 use Rattle.vx_model.specs.Reads.{ImageReadsAs}
 use Rattle.vx_model.specs.State.{State}
-use Rattle.vx_home.specs.NoteLaws.{NoteLaws}
+use Rattle.vx_log.specs.NoteLaws.{NoteLaws}
 use Rattle.vx_kernel.specs.Journals.{superblock_of}
 
 -- the volume of each new file system

@@ -1,18 +1,17 @@
 //! A new file system of one allocation unit.
 ghost use Rattle.std.specs.Prelude.{◌≡◌, ◌<◌, ◌≤◌, ◌+◌, OnOk, OnErr, []};
 ghost use Rattle.vx_base.specs.Faults.{HasCause};
-ghost use Rattle.vx_kernel.specs.Devices.{Onward};
+ghost use Rattle.vx_dev.specs.Runs.{Onward};
 ghost use Rattle.vx_log.specs.Logs.{fresh_log};
-ghost use Rattle.vx_log.specs.Moments.{Told};
+ghost use Rattle.vx_dev.specs.Moments.{Told};
 ghost use Rattle.vx_model.specs.State.{fresh};
 ghost use Rattle.vx_model.specs.Contents.{fresh_root};
 ghost use Rattle.vx_kernel.specs.Formats.{HasUnit, new_bitmap, unit_bytes};
 ghost use Rattle.vx_kernel.specs.Journals.{new_log_blocks, IsKept};
 
-use crate::device::{pass, put};
 use vx_base::{ExtAttrs, FileKind, Inode, InodeValue};
 use vx_codec::{inode_sector, write_bits};
-use vx_dev::{BlockDev, DevFault, tape_laws};
+use vx_dev::{BlockDev, DevFault, pass, put, tape_laws};
 use vx_layout::{Super, super_places};
 use vx_log::head_sector;
 use vx_model::{images, states};

@@ -1,19 +1,12 @@
 -- A device as formatting leaves it.
-use Rattle.std.specs.Prelude.{◌≡◌, ◌+◌, ◌<◌, ◌≤◌, ◌==◌, ◌&&◌, nat_lt, ℕ, true, List, ◌++◌, replicate, Some, None, if◌then◌else◌}
-use Rattle.vx_dev.specs.Tape.{State, Tape, now, Settles}
+use Rattle.std.specs.Prelude.{◌≡◌, ◌+◌, ◌<◌, ◌==◌, ◌&&◌, nat_lt, ℕ, true, List, ◌++◌, replicate, Some, None, if◌then◌else◌}
+use Rattle.vx_dev.specs.Tape.{Tape, now, Settles}
 use Rattle.vx_layout.specs.declared.superblock.Super.{Super}
 use Rattle.vx_layout.specs.Bits.{bits_bytes}
 use Rattle.vx_layout.specs.Inodes.{slot_bytes}
 use Rattle.vx_layout.specs.Places.{Volume, bitmap_sector}
 use Rattle.vx_layout.specs.Supers.{super_bytes}
 use Rattle.vx_model.specs.Contents.{fresh_root}
-
--- operations may have been added; nothing else but the count of failed writes has changed
-pub record Onward (old new : State) : Type 0 where
-  pub size : new.size ≡ old.size
-  pub later : old.count ≤ new.count
-  pub reads : new.read_faults ≡ old.read_faults
-  pub faults : old.write_faults ≤ new.write_faults
 
 -- the superblock of a file system of these sizes that was left clean
 abbrev pub clean_super : ℕ → ℕ → Super

@@ -3,18 +3,18 @@ ghost use Rattle.std.specs.Prelude.{◌≡◌, ◌<◌, ◌≤◌, ◌+◌, ◌*
 ghost use Rattle.vx_base.specs.Faults.{HasCause};
 ghost use Rattle.vx_layout.specs.Places.{sectors_of};
 ghost use Rattle.vx_layout.specs.Supers.{IsSuper, volume_of};
-ghost use Rattle.vx_log.specs.Moments.{Told};
+ghost use Rattle.vx_dev.specs.Moments.{Told};
 ghost use Rattle.vx_model.specs.Contents.{fresh_root};
 ghost use Rattle.vx_model.specs.Replays.{IsLeft};
 ghost use Rattle.vx_model.specs.Tree.{empty_root};
-ghost use Rattle.vx_mkfs.specs.Formats.{Onward, HasUnits, IsOfSizes, clean_super, new_bitmap, unit_bytes};
+ghost use Rattle.vx_dev.specs.Runs.{Onward};
+ghost use Rattle.vx_mkfs.specs.Formats.{HasUnits, IsOfSizes, clean_super, new_bitmap, unit_bytes};
 
-use crate::device::{pass, put};
 use crate::laws::formatted_reads;
 use vx_base::{ExtAttrs, FileKind, Inode, InodeValue};
 use vx_codec::{inode_sector, write_bits};
-use vx_dev::{BlockDev, DevFault, tape_laws};
-use vx_layout::Super;
+use vx_dev::{BlockDev, DevFault, pass, put, tape_laws};
+use vx_layout::{Super, super_places};
 use vx_log::head_sector;
 
 /// The sectors of a unit that formatting writes: two of its bitmap's block and those of its inodes.
@@ -132,6 +132,7 @@ pub fn make<D: BlockDev>(dev: &mut D, log_blocks: u32, units: u32) -> Result<(),
 {
     // The proof rests on these laws; nothing runs here.
     tape_laws();
+    super_places();
     formatted_reads();
     let superblock = Super {
         log_blocks,

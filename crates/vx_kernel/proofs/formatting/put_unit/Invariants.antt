@@ -1,6 +1,6 @@
 use Rattle.std.proofs.Common.{◌≡◌, ◌+◌}
-use Rattle.vx_log.specs.Moments.{Told}
-use Rattle.vx_kernel.specs.Devices.{Onward}
+use Rattle.vx_dev.specs.Moments.{Told}
+use Rattle.vx_dev.specs.Runs.{Onward}
 use Rattle.vx_kernel.specs.Formats.{HasUnit}
 use Rattle.vx_kernel.proofs.formatting.put_unit.Given as goal
 

@@ -2,7 +2,6 @@ use Rattle.std.proofs.Common.{ℕ, List, subst, refl}
 use Rattle.vx_dev.specs.declared.device.Operation.TheVariants.{Put}
 use Rattle.vx_dev.specs.Tape.{Did}
 use Rattle.vx_layout.specs.Supers.{volume_of}
-use Rattle.vx_layout.proofs.Standing.{super_volume}
 use Rattle.vx_mkfs.specs.Formats.{clean_super}
 use Rattle.vx_mkfs.proofs.Formatted.{formatted, sized, on_ok}
 use Rattle.vx_mkfs.proofs.formatting.make.Goals as goal
@@ -19,7 +18,7 @@ returns-clause-left g c =
     let third = subst (λ (bytes : List ℕ). Did (Put 0 bytes) settled super) c.write.ensures c.in_ok-put-2.ensures.did in
     on_ok c.pass-2.result _ _
     (λ last. formatted c.tape_laws.ensures made c.requires.is refl
-    (λ image is. c.formatted_reads.ensures (volume_of made) image refl (super_volume made) c.requires.is.units_low is)
+    (λ image is. c.formatted_reads.ensures (volume_of made) image refl (c.super_places.ensures.volume made) c.requires.is.units_low is)
     units head settled super new c.in_ok-put_units.ensures.units first c.in_ok-pass.ensures.did third last)
     c.pass-2.ensures.did
 

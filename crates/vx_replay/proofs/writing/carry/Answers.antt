@@ -1,6 +1,6 @@
 use Rattle.std.proofs.Common.{◌+◌, ℕ, List, length, sym, subst}
 use Rattle.vx_layout.specs.declared.superblock.Super.{Super}
-use Rattle.vx_log.specs.Moments.{Told}
+use Rattle.vx_dev.specs.Moments.{Told}
 use Rattle.vx_model.specs.Replays.{ReplaysAs}
 use Rattle.vx_replay.specs.Stopped.{IsEmptied}
 use Rattle.vx_replay.proofs.Steps.{told_then}
