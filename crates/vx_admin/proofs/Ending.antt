@@ -6,7 +6,7 @@ use Rattle.vx_admin.specs.declared.end.End.TheVariants.{Done}
 use Rattle.vx_admin.specs.Ends.{HasCause as HasReason, Taking, Takes}
 use Rattle.vx_base.specs.Faults.{HasCause}
 use Rattle.vx_dev.specs.Tape.{State, Tape, now}
-use Rattle.vx_log.specs.Moments.{Told}
+use Rattle.vx_dev.specs.Moments.{Told}
 use Rattle.vx_model.specs.Replays.{ReplaysAs, IsClean, IsLeft}
 use Rattle.vx_model.specs.Tree.{Tree}
 use Rattle.vx_replay.specs.LogReads.{Shows, IsRead}

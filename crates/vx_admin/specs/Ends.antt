@@ -12,7 +12,7 @@ use Rattle.vx_dev.specs.Tape.{State, Tape, now}
 use Rattle.vx_layout.specs.Places.{sectors_of}
 use Rattle.vx_layout.specs.Supers.{volume_of}
 use Rattle.vx_layout.specs.declared.superblock.Super.{Super}
-use Rattle.vx_log.specs.Moments.{Told, Always}
+use Rattle.vx_dev.specs.Moments.{Told, Always}
 use Rattle.vx_mkfs.specs.Formats.{IsNewImage}
 use Rattle.vx_model.specs.Replays.{ReplaysAs, IsClean, IsLeft}
 use Rattle.vx_model.specs.Tree.{Tree, empty_root}

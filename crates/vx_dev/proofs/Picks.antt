@@ -10,13 +10,13 @@ use Rattle.std.proofs.Math.Seq.{get_or-append_seam}
 use Rattle.vx_dev.specs.declared.device.Operation.{Operation}
 use Rattle.vx_dev.specs.declared.device.Operation.TheVariants.{Put, Barrier}
 use Rattle.vx_dev.specs.Tape.{Tape, upto, Choice, after_op, after_ops, did, choice, values, now, MayHold}
-use Rattle.vx_dev.specs.Picks.{IsWithin, put_by, puts, value_number, picked_value}
+use Rattle.vx_dev.specs.Picks.{IsWithin, put_by, put_values, value_number, picked_value}
 use Rattle.vx_dev.proofs.Tapes.{choice-put, choice-barrier, now-barrier, now-put, now-put_other}
 
-pub puts-push : (s : ℕ) (ops : List Operation) (op : Operation) → puts s (ops ++ op ∷ []) ≡ puts s ops ++ put_by s op
-unfolding puts
-puts-push s [] op = append-nil (put_by s op)
-puts-push s (o ∷ ops) op = ap (λ l. put_by s o ++ l) (puts-push s ops op) ∙ sym (append_assoc (put_by s o) (puts s ops) (put_by s op))
+pub put_values-push : (s : ℕ) (ops : List Operation) (op : Operation) → put_values s (ops ++ op ∷ []) ≡ put_values s ops ++ put_by s op
+unfolding put_values
+put_values-push s [] op = append-nil (put_by s op)
+put_values-push s (o ∷ ops) op = ap (λ l. put_by s o ++ l) (put_values-push s ops op) ∙ sym (append_assoc (put_by s o) (put_values s ops) (put_by s op))
 
 pub put_by-same : (s : ℕ) (bytes : List ℕ) → put_by s (Put s bytes) ≡ bytes ∷ []
 unfolding put_by
@@ -30,18 +30,18 @@ pub put_by-barrier : (s : ℕ) → put_by s Barrier ≡ []
 unfolding put_by
 put_by-barrier s = refl
 
-pub puts-barrier : (s : ℕ) (ops : List Operation) → puts s (ops ++ Barrier ∷ []) ≡ puts s ops
-puts-barrier s ops = puts-push s ops Barrier ∙ ap (λ (l : List (List ℕ)). puts s ops ++ l) (put_by-barrier s) ∙ append-nil (puts s ops)
+pub put_values-barrier : (s : ℕ) (ops : List Operation) → put_values s (ops ++ Barrier ∷ []) ≡ put_values s ops
+put_values-barrier s ops = put_values-push s ops Barrier ∙ ap (λ (l : List (List ℕ)). put_values s ops ++ l) (put_by-barrier s) ∙ append-nil (put_values s ops)
 
 pub length-put_by : (s : ℕ) (op : Operation) → length (put_by s op) ≤ 1
 unfolding put_by
 length-put_by s (Put u bytes) = grind (arith, nat_tests)
 length-put_by s Barrier = omega arith
 
-pub length-puts : (s : ℕ) (ops : List Operation) → length (puts s ops) ≤ length ops
-unfolding puts
-length-puts s [] = omega arith
-length-puts s (op ∷ ops) = omega (arith, length-put_by s op, length-puts s ops, length-append (put_by s op) (puts s ops))
+pub length-put_values : (s : ℕ) (ops : List Operation) → length (put_values s ops) ≤ length ops
+unfolding put_values
+length-put_values s [] = omega arith
+length-put_values s (op ∷ ops) = omega (arith, length-put_by s op, length-put_values s ops, length-append (put_by s op) (put_values s ops))
 
 -- what an operation at the sector u adds to the values of the sector s, by whether they are the same
 chosen_values : (b : Bool) (c : Choice) (bytes : List ℕ) → (let d : Choice = (if b then record { older = c.older ++ c.last ∷ []; last = bytes } else c) in d.older ++ d.last ∷ []) ≡ (c.older ++ c.last ∷ []) ++ (if b then bytes ∷ [] else [])
@@ -62,11 +62,11 @@ next_op ops i d op lt is = take_more ops i d lt ∙ ap (λ (o : Operation). take
 pub within_at : (n : ℕ) (ops : List Operation) (i : ℕ) (d : Operation) (u : ℕ) (bytes : List ℕ) → IsWithin n ops → i < length ops → get_or ops i d ≡ Put u bytes → u < n
 within_at n ops i d u bytes within lt is = within u bytes (subst (λ (o : Operation). Contains ops o) is (Contains-get_or ops i d lt))
 
-pub puts-same : (s : ℕ) (ops : List Operation) (bytes : List ℕ) → puts s (ops ++ Put s bytes ∷ []) ≡ puts s ops ++ bytes ∷ []
-puts-same s ops bytes = puts-push s ops (Put s bytes) ∙ ap (λ (l : List (List ℕ)). puts s ops ++ l) (put_by-same s bytes)
+pub put_values-same : (s : ℕ) (ops : List Operation) (bytes : List ℕ) → put_values s (ops ++ Put s bytes ∷ []) ≡ put_values s ops ++ bytes ∷ []
+put_values-same s ops bytes = put_values-push s ops (Put s bytes) ∙ ap (λ (l : List (List ℕ)). put_values s ops ++ l) (put_by-same s bytes)
 
-pub puts-other : (s u : ℕ) (ops : List Operation) (bytes : List ℕ) → s ≢ u → puts s (ops ++ Put u bytes ∷ []) ≡ puts s ops
-puts-other s u ops bytes other = puts-push s ops (Put u bytes) ∙ ap (λ (l : List (List ℕ)). puts s ops ++ l) (put_by-other s u bytes other) ∙ append-nil (puts s ops)
+pub put_values-other : (s u : ℕ) (ops : List Operation) (bytes : List ℕ) → s ≢ u → put_values s (ops ++ Put u bytes ∷ []) ≡ put_values s ops
+put_values-other s u ops bytes other = put_values-push s ops (Put u bytes) ∙ ap (λ (l : List (List ℕ)). put_values s ops ++ l) (put_by-other s u bytes other) ∙ append-nil (put_values s ops)
 
 zero_at : (n s : ℕ) → ◌≡◌ {A = ℕ} (get_or (replicate n 0) s 0) 0
 zero_at n s = elim (cases_lt s n) [ inl lt ↦ get_or-replicate n s 0 0 lt | inr le ↦ get_or_past (replicate n 0) s 0 (omega (arith, length-replicate {A = ℕ} n 0)) ]
@@ -74,17 +74,17 @@ zero_at n s = elim (cases_lt s n) [ inl lt ↦ get_or-replicate n s 0 0 lt | inr
 -- how often each sector is written by the operations
 pub record AreCounts (n : ℕ) (ops : List Operation) (counts : List ℕ) : Type 0 where
   pub same_length : length counts ≡ n
-  pub count : (s : ℕ) → get_or counts s 0 ≡ length (puts s ops)
+  pub count : (s : ℕ) → get_or counts s 0 ≡ length (put_values s ops)
 
-count_put : (counts : List ℕ) (ops : List Operation) (u v : ℕ) (bytes : List ℕ) → u < length counts → v ≡ get_or counts u 0 → ((s : ℕ) → get_or counts s 0 ≡ length (puts s ops))
-    → (s : ℕ) → get_or (set counts u (v + 1)) s 0 ≡ length (puts s (ops ++ Put u bytes ∷ []))
+count_put : (counts : List ℕ) (ops : List Operation) (u v : ℕ) (bytes : List ℕ) → u < length counts → v ≡ get_or counts u 0 → ((s : ℕ) → get_or counts s 0 ≡ length (put_values s ops))
+    → (s : ℕ) → get_or (set counts u (v + 1)) s 0 ≡ length (put_values s (ops ++ Put u bytes ∷ []))
 count_put counts ops u v bytes in_it now before s =
     elim (cases_eq s u) [
       | inl same ↦
-          let P : ℕ → Type 0 = λ w. get_or (set counts u (v + 1)) w 0 ≡ length (puts w (ops ++ Put u bytes ∷ [])) in
-          let here : P u = get_or-set_same counts u (v + 1) 0 in_it ∙ ap (λ (n : ℕ). n + 1) (now ∙ before u) ∙ sym (ap length (puts-same u ops bytes) ∙ length_push (puts u ops) bytes) in
+          let P : ℕ → Type 0 = λ w. get_or (set counts u (v + 1)) w 0 ≡ length (put_values w (ops ++ Put u bytes ∷ [])) in
+          let here : P u = get_or-set_same counts u (v + 1) 0 in_it ∙ ap (λ (n : ℕ). n + 1) (now ∙ before u) ∙ sym (ap length (put_values-same u ops bytes) ∙ length_push (put_values u ops) bytes) in
           subst P (sym same) here
-      | inr other ↦ get_or-set_other counts u s (v + 1) 0 other ∙ before s ∙ ap length (sym (puts-other s u ops bytes other))
+      | inr other ↦ get_or-set_other counts u s (v + 1) 0 other ∙ before s ∙ ap length (sym (put_values-other s u ops bytes other))
     ]
 
 pub counts_put : (n : ℕ) (counts counts2 : List ℕ) (ops ops2 : List Operation) (u v : ℕ) (bytes : List ℕ) → u < n → v ≡ get_or counts u v → counts2 ≡ set counts u (v + 1) → ops2 ≡ ops ++ Put u bytes ∷ []
@@ -102,11 +102,11 @@ pub counts_barrier : (n : ℕ) (counts counts2 : List ℕ) (ops ops2 : List Oper
 counts_barrier n counts counts2 ops ops2 is ops_is before =
     subst (λ (o : List Operation). AreCounts n o counts2) (sym ops_is) (subst (λ (l : List ℕ). AreCounts n (ops ++ Barrier ∷ []) l) (sym is) (record {
       same_length = before.same_length;
-      count = λ s. before.count s ∙ ap length (sym (puts-barrier s ops));
+      count = λ s. before.count s ∙ ap length (sym (put_values-barrier s ops));
     }))
 
 pub counts_none : (n : ℕ) (counts : List ℕ) → counts ≡ replicate n 0 → AreCounts n [] counts
-unfolding puts
+unfolding put_values
 counts_none n counts is = subst (λ (l : List ℕ). AreCounts n [] l) (sym is) (record { same_length = length-replicate n 0; count = λ s. zero_at n s })
 
 -- every sector has the last value that the operations gave it
@@ -165,10 +165,10 @@ picked_enough old number put value left bytes none before =
 -- all sectors
 pub record ArePicked (old : List (List ℕ)) (numbers : List ℕ) (ops : List Operation) (image : List (List ℕ)) (left : List ℕ) : Type 0 where
   pub same_length : length image ≡ length old
-  pub at : (s : ℕ) → HasPicked (get_or old s []) (get_or numbers s 0) (puts s ops) (get_or image s []) (get_or left s 0)
+  pub at : (s : ℕ) → HasPicked (get_or old s []) (get_or numbers s 0) (put_values s ops) (get_or image s []) (get_or left s 0)
 
 pub picked_none : (old : List (List ℕ)) (numbers : List ℕ) → ArePicked old numbers [] old numbers
-unfolding puts
+unfolding put_values
 picked_none old numbers = record { same_length = refl; at = λ s. record { left_is = omega arith; value_is = sym (ap (λ (i : ℕ). get_or {A = List ℕ} (get_or old s [] ∷ []) i []) (let e : min (get_or numbers s 0) 0 ≡ 0 = omega arith in e)) } }
 
 pub picked_put : (old image image2 : List (List ℕ)) (numbers left left2 : List ℕ) (ops ops2 : List Operation) (u : ℕ) (bytes : List ℕ) → u < length old → length left ≡ length old → 0 < get_or left u 0
@@ -180,18 +180,18 @@ picked_put old image image2 numbers left left2 ops ops2 u bytes lt left_len some
       same_length = length-set image u bytes ∙ before.same_length;
       at = λ s. elim (cases_eq s u) [
         | inl e ↦
-            let P : ℕ → Type 0 = λ v. HasPicked (get_or old v []) (get_or numbers v 0) (puts v (ops ++ Put u bytes ∷ [])) (get_or (set image u bytes) v []) (get_or (set left u (get_or left u 0 - 1)) v 0) in
+            let P : ℕ → Type 0 = λ v. HasPicked (get_or old v []) (get_or numbers v 0) (put_values v (ops ++ Put u bytes ∷ [])) (get_or (set image u bytes) v []) (get_or (set left u (get_or left u 0 - 1)) v 0) in
             let more = picked_more _ _ _ _ _ bytes some (before.at u) in
             let value : bytes ≡ get_or (set image u bytes) u [] = sym (get_or-set_same image u bytes [] (omega (arith, before.same_length))) in
             let count : get_or left u 0 - 1 ≡ get_or (set left u (get_or left u 0 - 1)) u 0 = sym (get_or-set_same left u (get_or left u 0 - 1) 0 (omega arith)) in
             let here : P u = record {
-              left_is = sym count ∙ more.left_is ∙ ap (λ (l : List (List ℕ)). get_or numbers u 0 - length l) (sym (puts-same u ops bytes));
-              value_is = sym value ∙ more.value_is ∙ ap (λ (l : List (List ℕ)). get_or {A = List ℕ} (get_or old u [] ∷ l) (min (get_or numbers u 0) (length l)) []) (sym (puts-same u ops bytes));
+              left_is = sym count ∙ more.left_is ∙ ap (λ (l : List (List ℕ)). get_or numbers u 0 - length l) (sym (put_values-same u ops bytes));
+              value_is = sym value ∙ more.value_is ∙ ap (λ (l : List (List ℕ)). get_or {A = List ℕ} (get_or old u [] ∷ l) (min (get_or numbers u 0) (length l)) []) (sym (put_values-same u ops bytes));
             } in
             subst P (sym e) here
         | inr other ↦ record {
-          left_is = get_or-set_other left u s (get_or left u 0 - 1) 0 other ∙ (before.at s).left_is ∙ ap (λ (l : List (List ℕ)). get_or numbers s 0 - length l) (sym (puts-other s u ops bytes other));
-          value_is = get_or-set_other image u s bytes [] other ∙ (before.at s).value_is ∙ ap (λ (l : List (List ℕ)). get_or {A = List ℕ} (get_or old s [] ∷ l) (min (get_or numbers s 0) (length l)) []) (sym (puts-other s u ops bytes other));
+          left_is = get_or-set_other left u s (get_or left u 0 - 1) 0 other ∙ (before.at s).left_is ∙ ap (λ (l : List (List ℕ)). get_or numbers s 0 - length l) (sym (put_values-other s u ops bytes other));
+          value_is = get_or-set_other image u s bytes [] other ∙ (before.at s).value_is ∙ ap (λ (l : List (List ℕ)). get_or {A = List ℕ} (get_or old s [] ∷ l) (min (get_or numbers s 0) (length l)) []) (sym (put_values-other s u ops bytes other));
         }
       ];
     })))
@@ -205,10 +205,10 @@ picked_kept old image image2 numbers left left2 ops ops2 u bytes none is left_is
       same_length = before.same_length;
       at = λ s. elim (cases_eq s u) [
         | inl e ↦
-            let P : ℕ → Type 0 = λ v. HasPicked (get_or old v []) (get_or numbers v 0) (puts v (ops ++ Put u bytes ∷ [])) (get_or image v []) (get_or left v 0) in
-            let here : P u = subst (λ (l : List (List ℕ)). HasPicked (get_or old u []) (get_or numbers u 0) l (get_or image u []) (get_or left u 0)) (sym (puts-same u ops bytes)) (picked_enough _ _ _ _ _ bytes none (before.at u)) in
+            let P : ℕ → Type 0 = λ v. HasPicked (get_or old v []) (get_or numbers v 0) (put_values v (ops ++ Put u bytes ∷ [])) (get_or image v []) (get_or left v 0) in
+            let here : P u = subst (λ (l : List (List ℕ)). HasPicked (get_or old u []) (get_or numbers u 0) l (get_or image u []) (get_or left u 0)) (sym (put_values-same u ops bytes)) (picked_enough _ _ _ _ _ bytes none (before.at u)) in
             subst P (sym e) here
-        | inr other ↦ subst (λ (l : List (List ℕ)). HasPicked (get_or old s []) (get_or numbers s 0) l (get_or image s []) (get_or left s 0)) (sym (puts-other s u ops bytes other)) (before.at s)
+        | inr other ↦ subst (λ (l : List (List ℕ)). HasPicked (get_or old s []) (get_or numbers s 0) l (get_or image s []) (get_or left s 0)) (sym (put_values-other s u ops bytes other)) (before.at s)
       ];
     })))
 
@@ -218,16 +218,16 @@ picked_barrier old image image2 numbers left left2 ops ops2 is left_is ops_is be
     subst (λ (o : List Operation). ArePicked old numbers o image2 left2) (sym ops_is) (subst (λ (l : List (List ℕ)). ArePicked old numbers (ops ++ Barrier ∷ []) l left2) (sym is)
     (subst (λ (l : List ℕ). ArePicked old numbers (ops ++ Barrier ∷ []) image l) (sym left_is) (record {
       same_length = before.same_length;
-      at = λ s. subst (λ (l : List (List ℕ)). HasPicked (get_or old s []) (get_or numbers s 0) l (get_or image s []) (get_or left s 0)) (sym (puts-barrier s ops)) (before.at s);
+      at = λ s. subst (λ (l : List (List ℕ)). HasPicked (get_or old s []) (get_or numbers s 0) l (get_or image s []) (get_or left s 0)) (sym (put_values-barrier s ops)) (before.at s);
     })))
 
 -- the operations up to the last barrier leave one value of a sector, and those after it add what they put
 pub record IsSplit (settled : ℕ) (ops : List Operation) : Type 0 where
   pub bound : settled ≤ length ops
-  pub split : (start : List (List ℕ)) (s : ℕ) → values (record { start = start; ops = ops }) s ≡ now (record { start = start; ops = take settled ops }) s ∷ puts s (drop settled ops)
+  pub split : (start : List (List ℕ)) (s : ℕ) → values (record { start = start; ops = ops }) s ≡ now (record { start = start; ops = take settled ops }) s ∷ put_values s (drop settled ops)
 
 pub split_none : IsSplit 0 []
-unfolding values now choice after_ops puts
+unfolding values now choice after_ops put_values
 split_none = record { bound = omega arith; split = λ start s. refl }
 
 pub split_put : (settled : ℕ) (ops : List Operation) (u : ℕ) (bytes : List ℕ) → IsSplit settled ops → IsSplit settled (ops ++ Put u bytes ∷ [])
@@ -237,12 +237,12 @@ split_put settled ops u bytes before = record {
       let rest : drop settled (ops ++ Put u bytes ∷ []) ≡ drop settled ops ++ Put u bytes ∷ [] = drop-append-le settled ops (Put u bytes ∷ []) before.bound in
       let front : take settled (ops ++ Put u bytes ∷ []) ≡ take settled ops = take-append-le settled ops (Put u bytes ∷ []) before.bound in
       values-put (record { start = start; ops = ops }) s u bytes ∙ ap (λ (l : List (List ℕ)). l ++ put_by s (Put u bytes)) (before.split start s)
-      ∙ ap (λ (o : List Operation). now (record { start = start; ops = o }) s ∷ (puts s (drop settled ops) ++ put_by s (Put u bytes))) (sym front)
-      ∙ ap (λ (l : List (List ℕ)). now (record { start = start; ops = take settled (ops ++ Put u bytes ∷ []) }) s ∷ l) (sym (ap (puts s) rest ∙ puts-push s (drop settled ops) (Put u bytes)));
+      ∙ ap (λ (o : List Operation). now (record { start = start; ops = o }) s ∷ (put_values s (drop settled ops) ++ put_by s (Put u bytes))) (sym front)
+      ∙ ap (λ (l : List (List ℕ)). now (record { start = start; ops = take settled (ops ++ Put u bytes ∷ []) }) s ∷ l) (sym (ap (put_values s) rest ∙ put_values-push s (drop settled ops) (Put u bytes)));
 }
 
 pub split_barrier : (settled : ℕ) (ops : List Operation) → settled ≡ length ops + 1 → IsSplit settled (ops ++ Barrier ∷ [])
-unfolding puts
+unfolding put_values
 split_barrier settled ops is =
     let whole : length (ops ++ Barrier ∷ []) ≤ settled = omega (arith, length_push ops Barrier) in
     record {
@@ -250,7 +250,7 @@ split_barrier settled ops is =
       split = λ start s.
           values-barrier (record { start = start; ops = ops }) s
           ∙ ap (λ (o : List Operation). now (record { start = start; ops = o }) s ∷ []) (sym (take_all settled (ops ++ Barrier ∷ []) whole))
-          ∙ ap (λ (l : List (List ℕ)). now (record { start = start; ops = take settled (ops ++ Barrier ∷ []) }) s ∷ l) (sym (ap (puts s) (drop_all settled (ops ++ Barrier ∷ []) whole)));
+          ∙ ap (λ (l : List (List ℕ)). now (record { start = start; ops = take settled (ops ++ Barrier ∷ []) }) s ∷ l) (sym (ap (put_values s) (drop_all settled (ops ++ Barrier ∷ []) whole)));
     }
 
 within_take : (n m : ℕ) (ops : List Operation) → IsWithin n ops → IsWithin n (take m ops)
@@ -295,17 +295,17 @@ pub record IsAt (all : List (List ℕ)) (writes number : ℕ) (value : List ℕ)
   pub value_is : value ≡ get_or all (min number (length all - 1)) []
 
 pub at_values : (start replayed image : List (List ℕ)) (ops settled open_ops : List Operation) (k s number : ℕ)
-    → values (record { start = start; ops = ops }) s ≡ now (record { start = start; ops = take k ops }) s ∷ puts s (drop k ops) → settled ≡ take k ops → open_ops ≡ drop k ops
+    → values (record { start = start; ops = ops }) s ≡ now (record { start = start; ops = take k ops }) s ∷ put_values s (drop k ops) → settled ≡ take k ops → open_ops ≡ drop k ops
     → get_or replayed s [] ≡ now (record { start = start; ops = settled }) s
-    → get_or image s [] ≡ get_or {A = List ℕ} (get_or replayed s [] ∷ puts s open_ops) (min number (length (puts s open_ops))) []
-    → IsAt (values (record { start = start; ops = ops }) s) (length (puts s open_ops)) number (get_or image s [])
+    → get_or image s [] ≡ get_or {A = List ℕ} (get_or replayed s [] ∷ put_values s open_ops) (min number (length (put_values s open_ops))) []
+    → IsAt (values (record { start = start; ops = ops }) s) (length (put_values s open_ops)) number (get_or image s [])
 at_values start replayed image ops settled open_ops k s number split settled_is open_is last picked =
-    let all : List (List ℕ) = get_or replayed s [] ∷ puts s open_ops in
+    let all : List (List ℕ) = get_or replayed s [] ∷ put_values s open_ops in
     let same : all ≡ values (record { start = start; ops = ops }) s =
-    ap (λ (x : List ℕ). x ∷ puts s open_ops) (last ∙ ap (λ (o : List Operation). now (record { start = start; ops = o }) s) settled_is)
-    ∙ ap (λ (o : List Operation). now (record { start = start; ops = take k ops }) s ∷ puts s o) open_is ∙ sym split in
-    let count : length (puts s open_ops) ≡ length all - 1 = omega arith in
-    subst (λ (l : List (List ℕ)). IsAt l (length (puts s open_ops)) number (get_or image s [])) same (record { count = omega arith; value_is = picked ∙ ap (λ (i : ℕ). get_or {A = List ℕ} (get_or replayed s [] ∷ puts s open_ops) (min number i) []) count })
+    ap (λ (x : List ℕ). x ∷ put_values s open_ops) (last ∙ ap (λ (o : List Operation). now (record { start = start; ops = o }) s) settled_is)
+    ∙ ap (λ (o : List Operation). now (record { start = start; ops = take k ops }) s ∷ put_values s o) open_is ∙ sym split in
+    let count : length (put_values s open_ops) ≡ length all - 1 = omega arith in
+    subst (λ (l : List (List ℕ)). IsAt l (length (put_values s open_ops)) number (get_or image s [])) same (record { count = omega arith; value_is = picked ∙ ap (λ (i : ℕ). get_or {A = List ℕ} (get_or replayed s [] ∷ put_values s open_ops) (min number i) []) count })
 
 pub at_may : (t : Tape) (s writes number : ℕ) (value : List ℕ) → IsAt (values t s) writes number value → MayHold t s value
 unfolding MayHold

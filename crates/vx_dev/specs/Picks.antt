@@ -13,9 +13,9 @@ put_by s (Put t bytes) = if t == s then bytes ∷ [] else []
 put_by s Barrier = []
 
 -- what the operations put into the sector s, oldest first
-unfoldable pub puts : ℕ → List Operation → List (List ℕ)
-puts s [] = []
-puts s (op ∷ ops) = put_by s op ++ puts s ops
+unfoldable pub put_values : ℕ → List Operation → List (List ℕ)
+put_values s [] = []
+put_values s (op ∷ ops) = put_by s op ++ put_values s ops
 
 -- the number, from 0, of the one that the seed picks of so many values of the sector s
 abbrev pub value_number : ℕ → ℕ → ℕ → ℕ

@@ -1,7 +1,7 @@
 // What a crash may leave of a disk in memory.
 ghost use Rattle.std.specs.Prelude.{◌≡◌, ◌<◌, ◌≤◌, ◌+◌, ◌-◌, ◌∷◌, ◌^◌, [], ℕ, IfOk, List, drop, get_or, length, min, take};
 ghost use Rattle.vx_dev.specs.Memory.{state_of, tape_of};
-ghost use Rattle.vx_dev.specs.Picks.{IsWithin, picked_value, puts, value_number};
+ghost use Rattle.vx_dev.specs.Picks.{IsWithin, picked_value, put_values, value_number};
 ghost use Rattle.vx_dev.specs.Tape.{IsImage, now, upto, values};
 
 use crate::{Image, MemDisk, Operation};
@@ -56,7 +56,7 @@ fn pick_numbers(seed: u64, numbers: &mut [u64])
 /// The number of operations up to the last barrier, with it.
 fn settled_len(ops: &[Operation]) -> usize
     ensures bound { result ≤ length ops.now }
-    ensures values { (start : List (List ℕ)) (s : ℕ) → values (record { start = start; ops = ops.now }) s ≡ now (record { start = start; ops = take result ops.now }) s ∷ puts s (drop result ops.now) }
+    ensures values { (start : List (List ℕ)) (s : ℕ) → values (record { start = start; ops = ops.now }) s ≡ now (record { start = start; ops = take result ops.now }) s ∷ put_values s (drop result ops.now) }
 {
     let mut settled = 0;
     for (i, op) in ops.iter().enumerate() {
@@ -72,7 +72,7 @@ fn settled_len(ops: &[Operation]) -> usize
 fn put_counts(alloc: Global, ops: &[Operation], sectors: u64) -> Result<Vec<u64>, AllocError>
     requires { IsWithin sectors ops.now }
     ensures length { IfOk result (λ counts. length counts.items ≡ sectors) }
-    ensures counts { IfOk result (λ counts. (s : ℕ) → get_or counts.items s 0 ≡ length (puts s ops.now)) }
+    ensures counts { IfOk result (λ counts. (s : ℕ) → get_or counts.items s 0 ≡ length (put_values s ops.now)) }
 {
     let mut counts = vec![in alloc; 0u64; sectors as usize]?;
     for op in ops {
@@ -103,7 +103,7 @@ fn replay_to(image: &mut Image, ops: &[Operation], numbers: &mut [u64])
     requires within { IsWithin (length image.old) ops.now }
     requires length { length numbers.old ≡ length image.old }
     ensures length { length image.new ≡ length image.old }
-    ensures picked { (s : ℕ) → get_or image.new s [] ≡ get_or (get_or image.old s [] ∷ puts s ops.now) (min (get_or numbers.old s 0) (length (puts s ops.now))) [] }
+    ensures picked { (s : ℕ) → get_or image.new s [] ≡ get_or (get_or image.old s [] ∷ put_values s ops.now) (min (get_or numbers.old s 0) (length (put_values s ops.now))) [] }
 {
     for op in ops {
         match op {

@@ -1,5 +1,4 @@
 mod Places
 mod NoteOrder
 mod HomeRuns
-pub mod Notes
-pub mod Getting
+mod Getting

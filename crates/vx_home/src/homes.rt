@@ -1,18 +1,16 @@
 //! Committed sectors that are not home yet.
 ghost use Rattle.std.specs.Prelude.{◌≡◌, ◌⊎◌, ◌<◌, ◌≤◌, ◌+◌, [], IfOk, IfErr, OnOk, OnErr, length, All, option_copied};
 ghost use Rattle.vx_base.specs.Faults.{HasCause};
-ghost use Rattle.vx_log.specs.Batches.{batch_set, IsPlaceOf, StandsAt, LacksAt};
-ghost use Rattle.vx_log.specs.Runs.{Ran, BrokeOff, puts};
-ghost use Rattle.vx_home.specs.Homes.{IsHomes, HasPlace, noted_at, with_notes};
+ghost use Rattle.vx_log.specs.Batches.{noted_at, with_notes, batch_set, IsPlaceOf, StandsAt, LacksAt};
+ghost use Rattle.vx_dev.specs.Runs.{Ran, BrokeOff, puts};
+ghost use Rattle.vx_home.specs.Homes.{IsHomes, HasPlace};
 ghost use Rattle.vx_home.specs.Indexes.{ArePlaces, named, bare};
 
 use std::alloc::{AllocError, Global};
 use std::marker::Model;
 use vx_base::SectorNo;
-use vx_dev::{BlockDev, DevFault};
-
-/// A sector and the bytes that it is to hold.
-pub type AfterImage = (SectorNo, [u8; 512]);
+use vx_dev::{BlockDev, DevFault, run_laws};
+use vx_log::{AfterImage, note_laws, order_laws};
 
 /// The most sectors that are noted.
 const MOST_SECTORS: usize = 4096;
@@ -59,6 +57,8 @@ impl Homes {
     pub fn get(&self, s: SectorNo) -> Option<&[u8; 512]>
         ensures { option_copied result ≡ noted_at self.now s }
     {
+        // The proof rests on this law; nothing runs here.
+        note_laws();
         match find(self.index.as_slice(), s) {
             Ok(at) => Some(&self.images[self.index[at].1]),
             Err(_) => None,
@@ -70,6 +70,8 @@ impl Homes {
         requires { HasPlace self.old s }
         ensures { self.new ≡ batch_set self.old s image.now }
     {
+        // The proof rests on this law; nothing runs here.
+        order_laws();
         match find(self.index.as_slice(), s) {
             Ok(at) => self.images[self.index[at].1] = *image,
             Err(at) => {
@@ -119,6 +121,8 @@ fn note_each(homes: &mut Homes, batch: &[AfterImage])
     requires { length homes.old + length batch.now ≤ 4096 }
     ensures { homes.new ≡ with_notes homes.old batch.now }
 {
+    // The proof rests on this law; nothing runs here.
+    note_laws();
     for entry in batch {
         homes.note(entry.0, &entry.1);
     }
@@ -141,6 +145,8 @@ fn put_each<D: BlockDev>(
     ensures reads { (D.state dev.new).read_faults ≡ (D.state dev.old).read_faults }
     ensures cause { HasCause (D.state dev.old).write_faults (D.state dev.new).write_faults result }
 {
+    // The proof rests on this law; nothing runs here.
+    run_laws();
     for entry in index {
         dev.write(u64::from(entry.0.get()), &images[entry.1])?;
     }
@@ -153,6 +159,8 @@ fn find(index: &[(SectorNo, usize)], s: SectorNo) -> Result<usize, usize>
     ensures found { IfOk result (StandsAt (bare index.now) s) }
     ensures missing { IfErr result (LacksAt (bare index.now) s) }
 {
+    // The proof rests on this law; nothing runs here.
+    order_laws();
     let at = place_of(index, s);
     if at < index.len() && index[at].0 == s {
         Ok(at)
@@ -166,5 +174,7 @@ fn place_of(index: &[(SectorNo, usize)], s: SectorNo) -> usize
     requires { IsHomes (bare index.now) }
     ensures { IsPlaceOf (bare index.now) s result }
 {
+    // The proof rests on this law; nothing runs here.
+    order_laws();
     index.partition_point(|e| e.0.get() < s.get())
 }

@@ -8,14 +8,13 @@ use Rattle.vx_dev.specs.Tape.{Tape, State as Device}
 use Rattle.vx_layout.specs.Dirs.{dir_bytes}
 use Rattle.vx_layout.specs.LogForms.{AfterImage, IsHomeSector, IsNameable, IsRecord, LogState, ReadsAs, log_length, records_of, overlay, overlay_all}
 use Rattle.vx_layout.specs.Places.{Volume, is_data, block_sector, sector_part}
-use Rattle.vx_log.specs.Batches.{sectors_of}
+use Rattle.vx_log.specs.Batches.{sectors_of, with_notes, noted_at}
 use Rattle.vx_log.specs.Crashes.{IsApart, Stands, grown}
 use Rattle.vx_log.specs.Logs.{LogView, next_serial, closed, opened, has_spare}
-use Rattle.vx_log.specs.Moments.{Told, Passed}
+use Rattle.vx_dev.specs.Moments.{Told, Passed}
 use Rattle.vx_log.specs.Readings.{IsReading, Commits}
-use Rattle.vx_log.proofs.Passing.{passed_weaker, told_weaker}
-use Rattle.vx_home.specs.Homes.{with_notes, noted_at}
-use Rattle.vx_home.specs.NoteLaws.{NoteLaws}
+use Rattle.vx_dev.proofs.Claims.{passed_weaker, told_weaker}
+use Rattle.vx_log.specs.NoteLaws.{NoteLaws}
 use Rattle.vx_model.specs.Contents.{parsed_of}
 use Rattle.vx_model.specs.Images.{Parsed, is_metadata, content_at, IsBatch, Says}
 use Rattle.vx_model.specs.Layout.{Layout, Claim, volume, claim_of, is_free}

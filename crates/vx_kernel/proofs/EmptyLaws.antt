@@ -6,15 +6,14 @@ use Rattle.std.specs.List.Sorted.{IsStrictlyIncreasing}
 use Rattle.vx_dev.specs.declared.device.DevFault.{DevFault}
 use Rattle.vx_dev.specs.Tape.{Tape, State as Device, IsImage}
 use Rattle.vx_layout.specs.LogForms.{AfterImage, LogState, ReadsAs}
-use Rattle.vx_log.specs.Batches.{sectors_of}
+use Rattle.vx_log.specs.Batches.{sectors_of, noted_at}
 use Rattle.vx_log.specs.Crashes.{Stands, emptied, IsPutHome}
 use Rattle.vx_log.specs.Logs.{LogView, next_serial, advanced}
-use Rattle.vx_log.specs.Moments.{Told, Passed}
+use Rattle.vx_dev.specs.Moments.{Told, Passed}
 use Rattle.vx_log.specs.Readings.{IsReading}
-use Rattle.vx_log.specs.Runs.{did_all, Ran, BrokeOff, puts}
+use Rattle.vx_dev.specs.Runs.{did_all, Ran, BrokeOff, puts}
 use Rattle.vx_log.specs.Stages.{AreHomes, AreWritten, AreHomesPut}
-use Rattle.vx_log.proofs.Passing.{passed_join, passed_still, passed_weaker, told_weaker}
-use Rattle.vx_home.specs.Homes.{noted_at}
+use Rattle.vx_dev.proofs.Claims.{passed_join, passed_still, passed_weaker, told_weaker}
 use Rattle.vx_model.specs.Replays.{ReplaysAs}
 use Rattle.vx_model.specs.State.{State}
 use Rattle.vx_kernel.specs.Devices.{IsInside}

@@ -6,8 +6,8 @@ use Rattle.vx_dev.specs.Tape.{Tape, State, now}
 use Rattle.vx_layout.specs.LogForms.{IsHomeSector, LogState}
 use Rattle.vx_layout.specs.Supers.{IsSuper, super_bytes}
 use Rattle.vx_log.specs.Logs.{fresh_log}
-use Rattle.vx_log.specs.Moments.{Told}
-use Rattle.vx_log.proofs.Passing.{told_weaker}
+use Rattle.vx_dev.specs.Moments.{Told}
+use Rattle.vx_dev.proofs.Claims.{told_weaker}
 use Rattle.vx_mkfs.specs.Formats.{IsNewImage}
 use Rattle.vx_model.specs.Contents.{parsed_of, IsFormatted}
 use Rattle.vx_model.specs.Images as model

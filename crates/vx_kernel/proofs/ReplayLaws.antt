@@ -9,12 +9,11 @@ use Rattle.vx_dev.specs.Tape.{Tape, State as Device}
 use Rattle.vx_layout.specs.LogForms.{AfterImage, IsRecord, LogState, ReadsAs, overlay_all, log_sectors}
 use Rattle.vx_layout.specs.Places.{block_sector}
 use Rattle.vx_layout.specs.Supers.{IsSuper, super_bytes}
-use Rattle.vx_log.specs.Batches.{sectors_of}
+use Rattle.vx_log.specs.Batches.{sectors_of, noted_at}
 use Rattle.vx_log.specs.Logs.{LogView, next_serial}
-use Rattle.vx_log.specs.Moments.{Told, Always, Passed}
+use Rattle.vx_dev.specs.Moments.{Told, Always, Passed}
 use Rattle.vx_log.specs.Readings.{IsReading}
-use Rattle.vx_log.specs.Runs.{did_all, Ran}
-use Rattle.vx_home.specs.Homes.{noted_at}
+use Rattle.vx_dev.specs.Runs.{did_all, Ran}
 use Rattle.vx_model.specs.Contents.{parsed_of}
 use Rattle.vx_model.specs.Images as images
 use Rattle.vx_model.specs.Images.{Parsed, Says}
@@ -23,7 +22,7 @@ use Rattle.vx_model.specs.Legal.{with_released}
 use Rattle.vx_model.specs.Reads.{ImageReadsAs}
 use Rattle.vx_model.specs.Replays.{ReplaysAs}
 use Rattle.vx_model.specs.State.{State}
-use Rattle.vx_log.proofs.Passing.{told_weaker}
+use Rattle.vx_dev.proofs.Claims.{told_weaker}
 use Rattle.vx_kernel.specs.Devices.{IsInside}
 use Rattle.vx_kernel.specs.Journals.{IsMounted, IsReadingOf, IsUnnamed, IsNoted, IsKept}
 use Rattle.vx_kernel.specs.JournalLaws.{JournalLaws}

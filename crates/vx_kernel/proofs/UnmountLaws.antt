@@ -10,8 +10,8 @@ use Rattle.vx_layout.specs.LogForms.{AfterImage, IsRecord, LogState, overlay_all
 use Rattle.vx_layout.specs.Supers.{super_bytes}
 use Rattle.vx_log.specs.Crashes.{Stands}
 use Rattle.vx_log.specs.Logs.{LogView}
-use Rattle.vx_log.specs.Moments.{Told, Passed}
-use Rattle.vx_log.proofs.Passing.{passed_still, passed_did, told_weaker}
+use Rattle.vx_dev.specs.Moments.{Told, Passed}
+use Rattle.vx_dev.proofs.Claims.{passed_still, passed_did, told_weaker}
 use Rattle.vx_model.specs.Contents.{parsed_of}
 use Rattle.vx_model.specs.Images as images
 use Rattle.vx_model.specs.Images.{Says}

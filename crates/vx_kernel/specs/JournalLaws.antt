@@ -11,8 +11,8 @@ use Rattle.vx_layout.specs.Dirs.{dir_bytes}
 use Rattle.vx_layout.specs.Places.{is_data, block_sector, sector_part}
 use Rattle.vx_log.specs.Batches.{sectors_of}
 use Rattle.vx_log.specs.Crashes.{Stands, IsDecided, IsFree}
-use Rattle.vx_log.specs.Moments.{Told, Passed}
-use Rattle.vx_log.specs.Runs.{Ran, BrokeOff, puts}
+use Rattle.vx_dev.specs.Moments.{Told, Passed}
+use Rattle.vx_dev.specs.Runs.{Ran, BrokeOff, puts}
 use Rattle.vx_log.specs.Stages.{AreHomes, AreWritten}
 use Rattle.vx_model.specs.Contents.{parsed_of}
 use Rattle.vx_model.specs.Layout.{volume}
@@ -22,7 +22,7 @@ use Rattle.vx_model.specs.LaidOut.{IsLaidOut}
 use Rattle.vx_model.specs.Legal.{with_released}
 use Rattle.vx_model.specs.Reads.{ImageReadsAs}
 use Rattle.vx_model.specs.State.{State}
-use Rattle.vx_home.specs.NoteLaws.{NoteLaws}
+use Rattle.vx_log.specs.NoteLaws.{NoteLaws}
 use Rattle.vx_kernel.specs.Sizes.{unit_volume, new_log_sectors, units_start}
 
 pub record JournalLaws : Type 0 where

@@ -7,7 +7,7 @@ use Rattle.vx_layout.specs.Places.{block_sector}
 use Rattle.vx_layout.specs.Supers.{super_bytes}
 use Rattle.vx_log.specs.Crashes.{Stands, IsDecided}
 use Rattle.vx_log.specs.Logs.{LogView}
-use Rattle.vx_home.specs.Homes.{noted_at}
+use Rattle.vx_log.specs.Batches.{noted_at}
 use Rattle.vx_model.specs.Contents.{parsed_of}
 use Rattle.vx_model.specs.Images.{IsBatch, Says}
 use Rattle.vx_model.specs.Layout.{volume, is_free}

@@ -1,9 +1,9 @@
 //! A new file system of one allocation unit.
 ghost use Rattle.std.specs.Prelude.{◌≡◌, ◌<◌, ◌≤◌, ◌+◌, false, OnOk, OnErr, []};
 ghost use Rattle.vx_base.specs.Faults.{HasCause};
-ghost use Rattle.vx_kernel.specs.Devices.{Onward};
+ghost use Rattle.vx_dev.specs.Runs.{Onward};
 ghost use Rattle.vx_log.specs.Logs.{fresh_log};
-ghost use Rattle.vx_log.specs.Moments.{Told};
+ghost use Rattle.vx_dev.specs.Moments.{Told};
 ghost use Rattle.vx_mkfs.specs.Formats.{format_operations};
 ghost use Rattle.vx_model.specs.State.{fresh};
 ghost use Rattle.vx_kernel.specs.Journals.{IsKept};

@@ -3,18 +3,18 @@ ghost use Rattle.std.specs.Prelude.{◌≡◌, ◌⊎◌, ◌<◌, ◌≤◌, �
 ghost use Rattle.vx_base.specs.Faults.{HasCause};
 ghost use Rattle.vx_layout.specs.LogForms.{log_length};
 ghost use Rattle.vx_log.specs.Logs.{fresh_log};
-ghost use Rattle.vx_log.specs.Moments.{Told, Passed};
+ghost use Rattle.vx_dev.specs.Moments.{Told, Passed};
 ghost use Rattle.vx_model.specs.Legal.{with_released};
 ghost use Rattle.vx_model.specs.Replays.{ReplaysAs};
 ghost use Rattle.vx_model.specs.State.{State};
-ghost use Rattle.vx_kernel.specs.Devices.{Onward, IsInside};
+ghost use Rattle.vx_dev.specs.Runs.{Onward};
+ghost use Rattle.vx_kernel.specs.Devices.{IsInside};
 ghost use Rattle.vx_kernel.specs.Sizes.{new_log_sectors, sectors_needed};
 
-use crate::device::{pass, put};
 use crate::formatting::{LOG_BLOCKS, superblock};
 use crate::laws::journal_laws;
 use std::alloc::{AllocError, Global};
-use vx_dev::{BlockDev, DevFault};
+use vx_dev::{BlockDev, DevFault, pass, put};
 use vx_home::Homes;
 use vx_log::{Batch, Log};
 

@@ -2,9 +2,8 @@
 ghost use Rattle.vx_kernel.specs.JournalLaws.{JournalLaws};
 
 use vx_dev::tape_laws;
-use vx_home::note_laws;
 use vx_layout::super_places;
-use vx_log::{batch_laws, home_laws, image_laws};
+use vx_log::{batch_laws, home_laws, image_laws, note_laws};
 use vx_model::edits::edit_laws;
 use vx_model::images::{log_says, metadata, sector_contents};
 use vx_model::states::state_reads;

@@ -2,7 +2,6 @@
 //! tree before a transaction or after it.
 #![tactic(auto)]
 
-mod device;
 mod formatting;
 mod journal;
 mod laws;

@@ -7,7 +7,7 @@ use Rattle.std.proofs.lemmas.Nat.{div-add-mod'}
 use Rattle.vx_dev.specs.declared.device.Operation.TheVariants.{Put, Barrier}
 use Rattle.vx_dev.specs.declared.device.Operation.{Operation}
 use Rattle.vx_dev.specs.Tape.{Writes, Tape, did, MayHold, Settles}
-use Rattle.vx_dev.proofs.Tapes.{may_less, settles_put, settles_put_other, settles_barrier}
+use Rattle.vx_dev.specs.Laws.{TapeLaws}
 use Rattle.vx_layout.specs.LogForms.{AfterImage, LogState, log_at, record_sectors, log_sectors, overlay, overlay_all, live}
 use Rattle.vx_log.specs.Crashes.{IsApart, Holds, IsFree, grown, Covers, trimmed, emptied, IsPut, IsCertainBody, IsHome, IsHomeBut}
 use Rattle.vx_log.proofs.Bodies.{length-record}
@@ -52,7 +52,7 @@ apart_either n p q some other near near2 = elim (cases_lt p q) [
   | inr more ↦ λ same. apart n q p some (omega (arith, other, more)) near2 (sym same)
 ]
 
-module _ (n : ℕ) where
+module _ (tape : TapeLaws) (n : ℕ) where
   pub holds_grown : (r : LogState) (records : List (List AfterImage)) (is_metadata : ℕ → Bool) (t : Tape) → IsApart n is_metadata → Covers r records is_metadata
       → r.head + length (log_sectors r.head records) ≤ r.tail + n → IsCertainBody n r.head (log_sectors r.head records) t → Holds n r t → Holds n (grown r records is_metadata) t
   holds_grown r records is_metadata t apart covers fits body h =
@@ -116,11 +116,11 @@ module _ (n : ℕ) where
   put_more some at body k t room put i lt = elim (cases_lt i k) [
     | inl old ↦
         let other : log_at n (at + i) ≢ log_at n (at + k) = λ same. apart n (at + i) (at + k) some (omega (arith, old)) (omega (arith, room)) (omega (arith, same)) in
-        settles_put_other t (log_at n (at + k)) (log_at n (at + i)) (get_or body k []) (get_or body i []) other (put i old)
+        tape.put_elsewhere t (log_at n (at + k)) (log_at n (at + i)) (get_or body k []) (get_or body i []) other (put i old)
     | inr new ↦
         let same : k ≡ i = omega (arith, lt, new) in
         let P : ℕ → Type 0 = λ j. Settles (did (Put (log_at n (at + k)) (get_or body k [])) t) (log_at n (at + j)) (get_or body j []) in
-        subst P same (settles_put t (log_at n (at + k)) (get_or body k []))
+        subst P same (tape.put_settles t (log_at n (at + k)) (get_or body k []))
   ]
 
   -- a sector at or after those that are written is none of them
@@ -134,7 +134,7 @@ module _ (n : ℕ) where
   put_apart some at body k t op u bytes w outside put i lt = w.other t (log_at n (at + i)) (get_or body i []) (outside_log some (at + i) u outside) (put i lt)
 
   pub put_barrier : (at : ℕ) (body : List (List ℕ)) (k : ℕ) (t : Tape) → IsPut n at body k t → IsPut n at body k (did Barrier t)
-  put_barrier at body k t put i lt = settles_barrier t (log_at n (at + i)) (get_or body i []) (put i lt)
+  put_barrier at body k t put i lt = tape.barrier_settles t (log_at n (at + i)) (get_or body i []) (put i lt)
 
   pub certain_apart : 0 < n → (at : ℕ) (body : List (List ℕ)) (t : Tape) (op : Operation) (u : ℕ) (bytes : List ℕ) → Writes op u bytes → (u < 4) ⊎ (4 + n ≤ u) → IsCertainBody n at body t → IsCertainBody n at body (did op t)
   certain_apart some at body t op u bytes w outside certain i x lt may = elim (w.may t (log_at n (at + i)) x may) [
@@ -143,7 +143,7 @@ module _ (n : ℕ) where
   ]
 
   pub certain_barrier : (at : ℕ) (body : List (List ℕ)) (t : Tape) → IsCertainBody n at body t → IsCertainBody n at body (did Barrier t)
-  certain_barrier at body t certain i x lt may = certain i x lt (may_less t (log_at n (at + i)) x may)
+  certain_barrier at body t certain i x lt may = certain i x lt (tape.barrier_adds t (log_at n (at + i)) x may)
 
   pub certain_body : (at : ℕ) (body : List (List ℕ)) (t : Tape) → IsPut n at body (length body) t → IsCertainBody n at body (did Barrier t)
   certain_body at body t put i x lt may = put i lt x may

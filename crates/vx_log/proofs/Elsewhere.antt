@@ -4,9 +4,9 @@ use Rattle.std.specs.Prelude.{option_map, Option, Some, None, IfSome}
 use Rattle.vx_dev.specs.declared.device.Operation.{Operation}
 use Rattle.vx_dev.specs.declared.device.Operation.TheVariants.{Put, Barrier}
 use Rattle.vx_dev.specs.Tape.{Tape, State, Did, DidNothing, Failed, Writes, did, tried, MayHold}
-use Rattle.vx_dev.proofs.Tapes.{may_less, put_writes, tried_writes}
-use Rattle.vx_log.specs.Moments.{Told, Passed}
-use Rattle.vx_log.proofs.Passing.{Shows, passed_did, passed_still, told_weaker}
+use Rattle.vx_dev.specs.Laws.{TapeLaws}
+use Rattle.vx_dev.specs.Moments.{Told, Passed, Shows}
+use Rattle.vx_dev.proofs.Claims.{passed_did, passed_still, told_weaker}
 
 did_told : (op : Operation) (a b : State) (P : Tape → Type 0) → Did op a b → ((t : Tape) → P t → P (did op t)) → Told a P → Told b P
 did_told op a b P d f h = subst (λ (o : Option Tape). IfSome o P) (sym d.told) (by_cases a.told h)
@@ -15,7 +15,7 @@ did_told op a b P d f h = subst (λ (o : Option Tape). IfSome o P) (sym d.told) 
     by_cases None k = tt
     by_cases (Some t) k = f t k
 
-module _ (s : ℕ) (Q : List ℕ → Type 0) (other : s ≢ 2) where
+module _ (tape : TapeLaws) (s : ℕ) (Q : List ℕ → Type 0) (other : s ≢ 2) where
   abbrev pub Keeps : Tape → Type 0
   Keeps t = (x : List ℕ) → MayHold t s x → Q x
 
@@ -34,19 +34,19 @@ module _ (s : ℕ) (Q : List ℕ → Type 0) (other : s ≢ 2) where
   still a b nothing h = passed_still There a b nothing.told (shown a h)
 
   pub after_barrier : (a b : State) → Did Barrier a b → Told a Keeps → Told b Keeps
-  after_barrier a b d h = did_told Barrier a b Keeps d (λ t k x may. k x (may_less t s x may)) h
+  after_barrier a b d h = did_told Barrier a b Keeps d (λ t k x may. k x (tape.barrier_adds t s x may)) h
 
   pub barrier_step : (a b : State) → Did Barrier a b → Told a Keeps → Passed There a b
   barrier_step a b d h = passed_did There Barrier a b d (shown a h) (shown b (after_barrier a b d h))
 
   pub after_head : (bytes : List ℕ) (a b : State) → Did (Put 2 bytes) a b → Told a Keeps → Told b Keeps
-  after_head bytes a b d h = did_told (Put 2 bytes) a b Keeps d (λ t k. keeps_write (Put 2 bytes) bytes t (put_writes 2 bytes) k) h
+  after_head bytes a b d h = did_told (Put 2 bytes) a b Keeps d (λ t k. keeps_write (Put 2 bytes) bytes t (tape.put_writes 2 bytes) k) h
 
   pub head_step : (bytes : List ℕ) (a b : State) → Did (Put 2 bytes) a b → Told a Keeps → Passed There a b
   head_step bytes a b d h = passed_did There (Put 2 bytes) a b d (shown a h) (shown b (after_head bytes a b d h))
 
   pub head_failed : (bytes : List ℕ) (a b : State) → Failed 2 bytes a b → Told a Keeps → Passed There a b
   head_failed bytes a b failed h = elim failed.did [
-    | inl d ↦ passed_did There (tried 2 bytes) a b d (shown a h) (shown b (did_told (tried 2 bytes) a b Keeps d (λ t k. keeps_write (tried 2 bytes) bytes t (tried_writes 2 bytes) k) h))
+    | inl d ↦ passed_did There (tried 2 bytes) a b d (shown a h) (shown b (did_told (tried 2 bytes) a b Keeps d (λ t k. keeps_write (tried 2 bytes) bytes t (tape.failed_writes 2 bytes) k) h))
     | inr nothing ↦ still a b nothing h
   ]

@@ -4,21 +4,21 @@ use Rattle.std.specs.Prelude.{IsTrue}
 use Rattle.vx_dev.specs.declared.device.Operation.TheVariants.{Put, Barrier}
 use Rattle.vx_dev.specs.declared.device.Operation.{Operation}
 use Rattle.vx_dev.specs.Tape.{Tape, Writes, did, MayHold, Settles}
-use Rattle.vx_dev.proofs.Tapes.{may_less, settles_put, settles_put_other}
+use Rattle.vx_dev.specs.Laws.{TapeLaws}
 use Rattle.vx_layout.specs.LogForms.{AfterImage, LogState, overlay_all}
 use Rattle.vx_log.specs.Crashes.{Holds, IsDecided, IsFree, IsHomeBut, IsPutHome, IsStableHome}
 
-pub home_put : (r : LogState) (s : ℕ) (t : Tape) (bytes : List ℕ) → bytes ≡ r.contents s → IsPutHome r s (did (Put s bytes) t)
-home_put r s t bytes is = subst (λ (b : List ℕ). Settles (did (Put s bytes) t) s b) is (settles_put t s bytes)
+pub home_put : TapeLaws → (r : LogState) (s : ℕ) (t : Tape) (bytes : List ℕ) → bytes ≡ r.contents s → IsPutHome r s (did (Put s bytes) t)
+home_put tape r s t bytes is = subst (λ (b : List ℕ). Settles (did (Put s bytes) t) s b) is (tape.put_settles t s bytes)
 
-pub home_put_other : (r : LogState) (u s : ℕ) (t : Tape) (bytes : List ℕ) → s ≢ u → IsPutHome r s t → IsPutHome r s (did (Put u bytes) t)
-home_put_other r u s t bytes other put = settles_put_other t u s bytes (r.contents s) other put
+pub home_put_other : TapeLaws → (r : LogState) (u s : ℕ) (t : Tape) (bytes : List ℕ) → s ≢ u → IsPutHome r s t → IsPutHome r s (did (Put u bytes) t)
+home_put_other tape r u s t bytes other put = tape.put_elsewhere t u s bytes (r.contents s) other put
 
 pub home_stable : (r : LogState) (s : ℕ) (t : Tape) → IsPutHome r s t → IsStableHome r s (did Barrier t)
 home_stable r s t put = put
 
-pub stable_barrier : (r : LogState) (s : ℕ) (t : Tape) → IsStableHome r s t → IsStableHome r s (did Barrier t)
-stable_barrier r s t stable x may = stable x (may_less t s x may)
+pub stable_barrier : TapeLaws → (r : LogState) (s : ℕ) (t : Tape) → IsStableHome r s t → IsStableHome r s (did Barrier t)
+stable_barrier tape r s t stable x may = stable x (tape.barrier_adds t s x may)
 
 pub stable_other : (r : LogState) (u s : ℕ) (t : Tape) (op : Operation) (bytes : List ℕ) → Writes op u bytes → s ≢ u → IsStableHome r s t → IsStableHome r s (did op t)
 stable_other r u s t op bytes w other stable x may = elim (w.may t s x may) [ inl before ↦ stable x before | inr here ↦ absurd (other here.0) ]

@@ -4,11 +4,11 @@ use Rattle.std.specs.Prelude.{IsTrue}
 use Rattle.vx_dev.specs.declared.device.Operation.TheVariants.{Put, Barrier}
 use Rattle.vx_dev.specs.declared.device.Operation.{Operation}
 use Rattle.vx_dev.specs.Tape.{Writes, Tape, did, IsImage, now}
-use Rattle.vx_dev.proofs.Tapes.{may_now, may_less, put_writes, settles_put}
+use Rattle.vx_dev.specs.Laws.{TapeLaws}
 use Rattle.vx_layout.specs.LogForms.{LogState, log_at, head_of, ReadsAs}
 use Rattle.vx_log.specs.Crashes.{Holds, Stands, Either, Turns, IsDecided, IsFree}
 
-module _ (n : ℕ) where
+module _ (tape : TapeLaws) (n : ℕ) where
   -- a write where no record and no open metadata is
   pub holds_put : (r : LogState) (t : Tape) (op : Operation) (u : ℕ) (bytes : List ℕ) → Writes op u bytes → IsFree n r u → Holds n r t → Holds n r (did op t)
   holds_put r t op u bytes w free h = record {
@@ -24,7 +24,7 @@ module _ (n : ℕ) where
       | inr here ↦
           let P : ℕ → Type 0 = λ v. IsTrue (r.is_metadata v) → IsDecided r.records v in
           let decided : IsDecided r.records s = subst P (sym here.0) free.decided meta in
-          decided x (now t s) ∙ h.metadata s (now t s) meta (may_now t s)
+          decided x (now t s) ∙ h.metadata s (now t s) meta (tape.now_may t s)
     ];
   }
 
@@ -33,8 +33,8 @@ module _ (n : ℕ) where
     apart = h.apart;
     ends = h.ends;
     fits = h.fits;
-    whole = λ i x lt may. h.whole i x lt (may_less t (log_at n (r.tail + i)) x may);
-    metadata = λ s x meta may. h.metadata s x meta (may_less t s x may);
+    whole = λ i x lt may. h.whole i x lt (tape.barrier_adds t (log_at n (r.tail + i)) x may);
+    metadata = λ s x meta may. h.metadata s x meta (tape.barrier_adds t s x may);
   }
 
   pub stands_put : (r : LogState) (t : Tape) (op : Operation) (u : ℕ) (bytes : List ℕ) → Writes op u bytes → IsFree n r u → u ≢ 2 → Stands n r t → Stands n r (did op t)
@@ -49,14 +49,14 @@ module _ (n : ℕ) where
   pub stands_barrier : (r : LogState) (t : Tape) → Stands n r t → Stands n r (did Barrier t)
   stands_barrier r t s = record {
     holds = holds_barrier r t s.holds;
-    head_is = λ x may. s.head_is x (may_less t 2 x may);
+    head_is = λ x may. s.head_is x (tape.barrier_adds t 2 x may);
   }
 
   pub either_barrier : (r r2 : LogState) (t : Tape) → Either n r r2 t → Either n r r2 (did Barrier t)
   either_barrier r r2 t e = record {
     before = holds_barrier r t e.before;
     after = holds_barrier r2 t e.after;
-    either = λ x may. e.either x (may_less t 2 x may);
+    either = λ x may. e.either x (tape.barrier_adds t 2 x may);
   }
 
   pub either_put : (r r2 : LogState) (t : Tape) (op : Operation) (u : ℕ) (bytes : List ℕ) → Writes op u bytes → IsFree n r u → IsFree n r2 u → u ≢ 2 → Either n r r2 t → Either n r r2 (did op t)
@@ -94,7 +94,7 @@ module _ (n : ℕ) where
   }
 
   pub turn : (r r2 : LogState) (t : Tape) → Stands n r t → Holds n r2 t → Turns n r r2 (did (Put 2 (head_of r2)) t)
-  turn r r2 t s h = record { reads = turn_failed r r2 t (Put 2 (head_of r2)) (put_writes 2 (head_of r2)) s h; last = settles_put t 2 (head_of r2) }
+  turn r r2 t s h = record { reads = turn_failed r r2 t (Put 2 (head_of r2)) (tape.put_writes 2 (head_of r2)) s h; last = tape.put_settles t 2 (head_of r2) }
 
   -- it failed and left nothing
   pub not_turned : (r r2 : LogState) (t : Tape) → Stands n r t → Holds n r2 t → Either n r r2 t

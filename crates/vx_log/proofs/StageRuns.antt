@@ -1,22 +1,22 @@
 -- Stages of several operations on a device that is lent: what each operation keeps, the stage keeps, whole or broken off.
-use Rattle.std.proofs.Common.{◌≡◌, ◌≢◌, ◌+◌, ◌-◌, ◌≤◌, ◌<◌, ℕ, zero, suc, List, [], ◌∷◌, ◌++◌, length, take, drop, get_or, sym, ◌∙◌, ap, subst, inl, inr, ⊎_elim, arith, append_assoc, length-take, length-drop}
-use Rattle.std.specs.Prelude.{option_map, Option, Some, None, IfSome, slice_range}
+use Rattle.std.proofs.Common.{◌≡◌, ◌≢◌, ◌+◌, ◌-◌, ◌≤◌, ◌<◌, ℕ, List, [], length, drop, get_or, sym, ◌∙◌, ap, subst, inl, inr, ⊎_elim, arith, length-take, length-drop}
+use Rattle.std.specs.Prelude.{Option, Some, None, IfSome, slice_range}
 use Rattle.std.proofs.lemmas.Bool.{cases_lt, cases_eq}
-use Rattle.std.proofs.lemmas.List.{append-nil, take_all, take_more, get_or_default, get_or-take, get_or-drop}
-use Rattle.vx_dev.specs.declared.device.Operation.{Operation}
+use Rattle.std.proofs.lemmas.List.{get_or_default, get_or-take, get_or-drop}
 use Rattle.vx_dev.specs.declared.device.Operation.TheVariants.{Put}
 use Rattle.vx_dev.specs.Tape.{Tape, State, did, tried, IsImage}
-use Rattle.vx_dev.proofs.Tapes.{put_writes, tried_writes}
+use Rattle.vx_dev.specs.Laws.{TapeLaws}
 use Rattle.vx_layout.specs.LogForms.{LogState, log_at, live}
-use Rattle.vx_log.specs.Runs.{did_all, Ran, puts, BrokeOff, log_writes}
+use Rattle.vx_dev.specs.Runs.{Ran, puts, BrokeOff}
+use Rattle.vx_log.specs.Writes.{log_writes}
 use Rattle.vx_log.specs.Crashes.{Stands, IsFree, IsPut, IsPutHome}
-use Rattle.vx_log.specs.Moments.{Told, Past}
+use Rattle.vx_dev.specs.Moments.{Told, Past}
 use Rattle.vx_log.specs.Stages.{AreHomes}
 use Rattle.vx_log.proofs.Operations.{stands_put}
 use Rattle.vx_log.proofs.Commits.{put_more, put_stays, body_free}
 use Rattle.vx_log.proofs.HomeWrites.{home_put, home_put_other, home_free}
-use Rattle.vx_log.proofs.Times.{past_did}
-use Rattle.vx_log.proofs.RunLemmas.{length-puts, length-log_writes, take-puts, puts-push, get_or-log_writes}
+use Rattle.vx_dev.proofs.Claims.{past_did, stage_keeps, broken_keeps}
+use Rattle.vx_log.proofs.LogWrites.{length-log_writes, get_or-log_writes}
 
 -- the first k log sectors of a body are written, and each earlier moment was as claimed
 pub record Putting (n : ℕ) (r : LogState) (body : List (List ℕ)) (first : ℕ) (P : ℕ → (ℕ → List ℕ) → Type 0) (k : ℕ) (t : Tape) : Type 0 where
@@ -30,52 +30,8 @@ pub record WritingHome (n : ℕ) (r : LogState) (writes : List (ℕ × List ℕ)
   pub home : (j : ℕ) (d : ℕ × List ℕ) → j < k → IsPutHome r (get_or writes j d).0 t
   pub past : Past first P t
 
-pub told_ran : (ops : List Operation) (old new : Option Tape) (P Q : Tape → Type 0) → new ≡ option_map (did_all ops) old → ((t : Tape) → P t → Q (did_all ops t)) → IfSome old P → IfSome new Q
-told_ran ops None new P Q is step h = subst (λ (o : Option Tape). IfSome o Q) (sym is) tt
-told_ran ops (Some t) new P Q is step h = subst (λ (o : Option Tape). IfSome o Q) (sym is) (step t h)
-
--- K counts the writes that are done
-module _ (K : ℕ → Tape → Type 0) (writes : List (ℕ × List ℕ)) (d : ℕ × List ℕ)
-    (step : (i : ℕ) (t : Tape) → i < length writes → K i t → K (i + 1) (did (Put (get_or writes i d).0 (get_or writes i d).1) t)) where
-  pub front_keeps : (k : ℕ) (t : Tape) → k ≤ length writes → K 0 t → K k (did_all (take k (puts writes)) t)
-  front_keeps zero t le h = subst (λ (l : List Operation). K 0 (record { start = t.start; ops = l })) (sym (append-nil t.ops)) h
-  front_keeps (suc k) t le h =
-      let before : K k (did_all (take k (puts writes)) t) = front_keeps k t (omega (arith, le)) h in
-      let w : ℕ × List ℕ = get_or writes k d in
-      let one : K (k + 1) (did (Put w.0 w.1) (did_all (take k (puts writes)) t)) = step k (did_all (take k (puts writes)) t) (omega (arith, le)) before in
-      let next : k + 1 ≡ suc k = omega arith in
-      let more : take (k + 1) (puts writes) ≡ take k (puts writes) ++ Put w.0 w.1 ∷ [] =
-      take-puts (k + 1) writes ∙ ap puts (take_more writes k d (omega (arith, le))) ∙ puts-push (take k writes) w ∙ ap (λ (l : List Operation). l ++ Put w.0 w.1 ∷ []) (sym (take-puts k writes)) in
-      subst (λ (j : ℕ). K j (did_all (take j (puts writes)) t)) next
-      (subst (λ (l : List Operation). K (k + 1) (did_all l t)) (sym more)
-      (subst (λ (l : List Operation). K (k + 1) (record { start = t.start; ops = l })) (append_assoc t.ops (take k (puts writes)) (Put w.0 w.1 ∷ [])) one))
-
-  pub run_keeps : (t : Tape) → K 0 t → K (length writes) (did_all (puts writes) t)
-  run_keeps t h = subst (λ (l : List Operation). K (length writes) (did_all l t)) (take_all (length writes) (puts writes) (omega (arith, length-puts writes))) (front_keeps (length writes) t (omega arith) h)
-
-  -- a whole stage
-  pub stage_keeps : (old new : State) → Ran (puts writes) old new → Told old (K 0) → Told new (K (length writes))
-  stage_keeps old new ran h = told_ran (puts writes) old.told new.told (K 0) (K (length writes)) ran.told (λ t kept. run_keeps t kept) h
-
-  -- a stage that a fault broke off
-  pub broken_keeps : (F : Tape → Type 0) → ((i : ℕ) (t : Tape) → i < length writes → K i t → F (did (tried (get_or writes i d).0 (get_or writes i d).1) t)) → ((i : ℕ) (t : Tape) → i < length writes → K i t → F t)
-      → (old new : State) → BrokeOff writes old new → Told old (K 0) → Told new F
-  broken_keeps F failed stopped old new b h =
-      let k : ℕ = b.k in
-      let ops : List Operation = take k (puts writes) in
-      let w : ℕ × List ℕ = get_or writes k d in
-      let le : k ≤ length writes = omega (arith, b.within) in
-      let same : w ≡ b.failed = get_or_default writes k d b.failed b.within ∙ b.failed_is in
-      ⊎_elim
-      (λ (ran : Ran (ops ++ tried b.failed.0 b.failed.1 ∷ []) old new). told_ran (ops ++ tried b.failed.0 b.failed.1 ∷ []) old.told new.told (K 0) F ran.told (λ t kept.
-      let one : F (did (tried w.0 w.1) (did_all ops t)) = failed k (did_all ops t) b.within (front_keeps k t le kept) in
-      let other : F (did (tried b.failed.0 b.failed.1) (did_all ops t)) = subst (λ (v : ℕ × List ℕ). F (did (tried v.0 v.1) (did_all ops t))) same one in
-      subst (λ (l : List Operation). F (record { start = t.start; ops = l })) (append_assoc t.ops ops (tried b.failed.0 b.failed.1 ∷ [])) other) h)
-      (λ (ran : Ran ops old new). told_ran ops old.told new.told (K 0) F ran.told (λ t kept. stopped k (did_all ops t) b.within (front_keeps k t le kept)) h)
-      b.ran
-
 -- a body is written, from one of its log sectors to before another
-module _ (n : ℕ) (some : 0 < n) (r : LogState) (body : List (List ℕ)) (room : r.head + length body ≤ r.tail + n) (first : ℕ) (P : ℕ → (ℕ → List ℕ) → Type 0)
+module _ (tape : TapeLaws) (n : ℕ) (some : 0 < n) (r : LogState) (body : List (List ℕ)) (room : r.head + length body ≤ r.tail + n) (first : ℕ) (P : ℕ → (ℕ → List ℕ) → Type 0)
     (shows : (t : Tape) → Stands n r t → (image : ℕ → List ℕ) → IsImage t image → P (length t.ops) image)
     (from end : ℕ) (order : from ≤ end) (within : end ≤ length body) where
   abbrev range : List (List ℕ)
@@ -108,8 +64,8 @@ module _ (n : ℕ) (some : 0 < n) (r : LogState) (body : List (List ℕ)) (room 
       let ends : r.head ≡ r.tail + length (live r) = kept.stands.holds.ends in
       let inside : k < length body = omega (arith, lt, length-writes, order, within) in
       let done : Putting n r body first P (k + 1) (did (Put u bytes) t) = record {
-        stands = stands_put n r t (Put u bytes) u bytes (put_writes u bytes) (body_free n some r t kept.stands.holds k (omega (arith, room, inside))) (λ same. absurd (omega (arith, same))) kept.stands;
-        put = put_more n some r.head body k t (omega (arith, room, inside, ends)) kept.put;
+        stands = stands_put tape n r t (Put u bytes) u bytes (tape.put_writes u bytes) (body_free tape n some r t kept.stands.holds k (omega (arith, room, inside))) (λ same. absurd (omega (arith, same))) kept.stands;
+        put = put_more tape n some r.head body k t (omega (arith, room, inside, ends)) kept.put;
         past = past_did first P t (Put u bytes) kept.past (shows t kept.stands);
       } in
       let next : k + 1 ≡ from + (i + 1) = omega arith in
@@ -128,8 +84,8 @@ module _ (n : ℕ) (some : 0 < n) (r : LogState) (body : List (List ℕ)) (room 
       let inside : k < length body = omega (arith, lt, length-writes, order, within) in
       let old : Putting n r body first P from t = fewer i t kept in
       let done : Putting n r body first P from (did (tried u bytes) t) = record {
-        stands = stands_put n r t (tried u bytes) u bytes (tried_writes u bytes) (body_free n some r t kept.stands.holds k (omega (arith, room, inside))) (λ same. absurd (omega (arith, same))) kept.stands;
-        put = put_stays n some r.head body from k t (tried u bytes) bytes (tried_writes u bytes) (omega arith) (omega (arith, room, inside, ends)) old.put;
+        stands = stands_put tape n r t (tried u bytes) u bytes (tape.failed_writes u bytes) (body_free tape n some r t kept.stands.holds k (omega (arith, room, inside))) (λ same. absurd (omega (arith, same))) kept.stands;
+        put = put_stays tape n some r.head body from k t (tried u bytes) bytes (tape.failed_writes u bytes) (omega arith) (omega (arith, room, inside, ends)) old.put;
         past = past_did first P t (tried u bytes) kept.past (shows t kept.stands);
       } in
       subst (λ (w : ℕ × List ℕ). Putting n r body first P from (did (tried w.0 w.1) t)) (sym (write_is i lt)) done
@@ -152,7 +108,7 @@ module _ (n : ℕ) (some : 0 < n) (r : LogState) (body : List (List ℕ)) (room 
   body_broken old new b h = broken_keeps Kept range_writes no_write one (Putting n r body first P from) failed_one (λ i t lt kept. fewer i t kept) old new b (told_start old.told h)
 
 -- sectors are written home
-module _ (n : ℕ) (some : 0 < n) (r : LogState) (writes : List (ℕ × List ℕ)) (homes : AreHomes r writes) (first : ℕ) (P : ℕ → (ℕ → List ℕ) → Type 0)
+module _ (tape : TapeLaws) (n : ℕ) (some : 0 < n) (r : LogState) (writes : List (ℕ × List ℕ)) (homes : AreHomes r writes) (first : ℕ) (P : ℕ → (ℕ → List ℕ) → Type 0)
     (shows : (t : Tape) → Stands n r t → (image : ℕ → List ℕ) → IsImage t image → P (length t.ops) image) where
   abbrev nothing : ℕ × List ℕ
   nothing = (0, [])
@@ -165,8 +121,8 @@ module _ (n : ℕ) (some : 0 < n) (r : LogState) (writes : List (ℕ × List ℕ
 
   stays_home : (i j : ℕ) (d : ℕ × List ℕ) (t : Tape) → i < length writes → IsPutHome r (get_or writes j d).0 t → IsPutHome r (get_or writes j d).0 (did (Put (get_or writes i nothing).0 (get_or writes i nothing).1) t)
   stays_home i j d t lt put = elim (cases_eq (get_or writes j d).0 (get_or writes i nothing).0) [
-    | inl same ↦ subst (λ (s : ℕ). IsPutHome r s (did (Put (get_or writes i nothing).0 (get_or writes i nothing).1) t)) (sym same) (home_put r (get_or writes i nothing).0 t (get_or writes i nothing).1 (homes.contents i nothing lt))
-    | inr other ↦ home_put_other r (get_or writes i nothing).0 (get_or writes j d).0 t (get_or writes i nothing).1 other put
+    | inl same ↦ subst (λ (s : ℕ). IsPutHome r s (did (Put (get_or writes i nothing).0 (get_or writes i nothing).1) t)) (sym same) (home_put tape r (get_or writes i nothing).0 t (get_or writes i nothing).1 (homes.contents i nothing lt))
+    | inr other ↦ home_put_other tape r (get_or writes i nothing).0 (get_or writes j d).0 t (get_or writes i nothing).1 other put
   ]
 
   home_one : (i : ℕ) (t : Tape) → i < length writes → WritingHome n r writes first P i t → WritingHome n r writes first P (i + 1) (did (Put (get_or writes i nothing).0 (get_or writes i nothing).1) t)
@@ -174,12 +130,12 @@ module _ (n : ℕ) (some : 0 < n) (r : LogState) (writes : List (ℕ × List ℕ
       let u : ℕ = (get_or writes i nothing).0 in
       let bytes : List ℕ = (get_or writes i nothing).1 in
       record {
-        stands = stands_put n r t (Put u bytes) u bytes (put_writes u bytes) (free i t lt kept.stands) (not_head i t lt kept.stands) kept.stands;
+        stands = stands_put tape n r t (Put u bytes) u bytes (tape.put_writes u bytes) (free i t lt kept.stands) (not_head i t lt kept.stands) kept.stands;
         home = λ j d below. elim (cases_lt j i) [
           | inl old ↦ stays_home i j d t lt (kept.home j d old)
           | inr new ↦
               let same : i ≡ j = omega (arith, below, new) in
-              let put : IsPutHome r u (did (Put u bytes) t) = home_put r u t bytes (homes.contents i nothing lt) in
+              let put : IsPutHome r u (did (Put u bytes) t) = home_put tape r u t bytes (homes.contents i nothing lt) in
               let at_d : IsPutHome r (get_or writes i d).0 (did (Put u bytes) t) = subst (λ (w : ℕ × List ℕ). IsPutHome r w.0 (did (Put u bytes) t)) (get_or_default writes i nothing d lt) put in
               subst (λ (m : ℕ). IsPutHome r (get_or writes m d).0 (did (Put u bytes) t)) same at_d
         ];
@@ -195,7 +151,7 @@ module _ (n : ℕ) (some : 0 < n) (r : LogState) (writes : List (ℕ × List ℕ
       let u : ℕ = (get_or writes i nothing).0 in
       let bytes : List ℕ = (get_or writes i nothing).1 in
       record {
-        stands = stands_put n r t (tried u bytes) u bytes (tried_writes u bytes) (free i t lt kept.stands) (not_head i t lt kept.stands) kept.stands;
+        stands = stands_put tape n r t (tried u bytes) u bytes (tape.failed_writes u bytes) (free i t lt kept.stands) (not_head i t lt kept.stands) kept.stands;
         home = λ j d below. absurd (omega (arith, below));
         past = past_did first P t (tried u bytes) kept.past (shows t kept.stands);
       }

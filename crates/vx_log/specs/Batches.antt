@@ -1,5 +1,5 @@
 -- Batches of after-images, as lists that rise in sector.
-use Rattle.std.specs.Prelude.{◌≡◌, ◌≢◌, ◌⊎◌, ◌==◌, ◌<◌, ◌≤◌, ℕ, List, [], ◌∷◌, length, map, get_or, nat_lt, if◌then◌else◌, Contains}
+use Rattle.std.specs.Prelude.{◌≡◌, ◌≢◌, ◌⊎◌, ◌==◌, ◌<◌, ◌≤◌, ℕ, List, [], ◌∷◌, length, map, get_or, nat_lt, if◌then◌else◌, Contains, Option, Some, None}
 use Rattle.std.specs.List.Sorted.{IsStrictlyIncreasing}
 use Rattle.vx_layout.specs.LogForms.{AfterImage}
 
@@ -38,3 +38,13 @@ pub record LacksAt (batch : List AfterImage) (s i : ℕ) : Type 0 where
   pub place : IsPlaceOf batch s i
   pub other : i < length batch → get_or (sectors_of batch) i 0 ≢ s
   pub lacks : Contains (sectors_of batch) s → ⊥
+
+-- the list with the after-images of a batch too
+abbrev pub with_notes : List AfterImage → List AfterImage → List AfterImage
+with_notes homes [] = homes
+with_notes homes (e ∷ batch) = with_notes (batch_set homes e.0 e.1) batch
+
+-- what the list says of the sector
+abbrev pub noted_at : List AfterImage → ℕ → Option (List ℕ)
+noted_at [] s = None
+noted_at (e ∷ es) s = if e.0 == s then Some e.1 else noted_at es s

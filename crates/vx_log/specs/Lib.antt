@@ -1,9 +1,9 @@
 pub mod Batches
-pub mod Runs
+pub mod Writes
 pub mod Logs
 pub mod Crashes
-pub mod Moments
 pub mod Stages
 pub mod Readings
-pub mod RunLaws
 pub mod Ends
+pub mod NoteLaws
+pub mod OrderLaws

@@ -2,7 +2,7 @@
 use Rattle.std.specs.Prelude.{◌≡◌, ◌⊎◌, ◌==◌, ◌&&◌, ◌<◌, ◌≤◌, ◌+◌, ◌%◌, ◌^◌, min, ℕ, Bool, true, false, List, [], ◌∷◌, ◌++◌, length, filter, nat_le, Option, Some, None, IfSome, is_none, All, Contains, slice_range}
 use Rattle.vx_layout.specs.LogForms.{AfterImage, IsHomeSector, log_length, body_of}
 use Rattle.vx_log.specs.Batches.{IsBatch}
-use Rattle.vx_log.specs.Runs.{log_writes}
+use Rattle.vx_log.specs.Writes.{log_writes}
 use Rattle.vx_log.specs.declared.log.Closing.{Closing}
 
 -- What a log is: the number of its sectors, what its head sector says, the positions at which the batches between tail and head
@@ -99,6 +99,10 @@ IsBoundary log to = (to ≡ log.head) ⊎ Contains log.starts to
 -- the log after the head sector with this tail is written
 abbrev pub advanced : LogView → ℕ → LogView
 advanced log to = record log { serial = next_serial log.serial; tail = to; starts = filter (λ start. nat_le to start) log.starts }
+
+-- the log after the head sector with both positions at 0 is written
+abbrev pub restarted : LogView → LogView
+restarted log = record log { serial = next_serial log.serial; tail = 0; head = 0; starts = [] }
 
 -- there is an empty batch to be handed back
 abbrev pub has_spare : LogView → Bool

@@ -1,6 +1,6 @@
 -- What is known of the device while a batch is written and while sectors are written home.
-use Rattle.std.specs.Prelude.{◌≡◌, ◌⊎◌, ◌<◌, ◌≤◌, ◌+◌, ℕ, IsTrue, List, length, get_or, Some, Contains}
-use Rattle.vx_dev.specs.Tape.{Tape, MayHold}
+use Rattle.std.specs.Prelude.{◌≡◌, ◌⊎◌, ◌<◌, ◌≤◌, ◌+◌, ℕ, IsTrue, List, length, get_or, Some}
+use Rattle.vx_dev.specs.Tape.{Tape}
 use Rattle.vx_layout.specs.LogForms.{AfterImage, LogState, log_length, body_of, overlay_all}
 use Rattle.vx_log.specs.Logs.{LogView}
 use Rattle.vx_log.specs.Crashes.{Stands, IsDecided, IsPut, IsPutHome}
@@ -37,11 +37,3 @@ pub record AreWritten (n : ℕ) (r : LogState) (writes : List (ℕ × List ℕ))
 pub record AreHomesPut (n : ℕ) (r : LogState) (t : Tape) : Type 0 where
   pub stands : Stands n r t
   pub put : (s : ℕ) → IsTrue (r.is_metadata s) → ((x : List ℕ) → overlay_all r.records s x ≡ x) ⊎ IsPutHome r s t
-
--- a crash leaves one of these values in the sector
-abbrev pub HoldsOneOf : ℕ → List (List ℕ) → Tape → Type 0
-HoldsOneOf s values t = (x : List ℕ) → MayHold t s x → Contains values x
-
--- what these writes put into the sector is one of the values
-abbrev pub AreAmong : ℕ → List (List ℕ) → List (ℕ × List ℕ) → Type 0
-AreAmong s values writes = (k : ℕ) (d : ℕ × List ℕ) → k < length writes → (get_or writes k d).0 ≡ s → Contains values (get_or writes k d).1

@@ -4,13 +4,13 @@ ghost use Rattle.vx_base.specs.Faults.{HasCause};
 ghost use Rattle.vx_layout.specs.LogForms.{AfterImage, IsHomeSector, LogState, ReadsAs, log_length, records_of, body_of};
 ghost use Rattle.vx_log.specs.Crashes.{Stands, grown, emptied};
 ghost use Rattle.vx_log.specs.Logs.{closed, opened, advanced, is_body_out};
-ghost use Rattle.vx_log.specs.Moments.{Told, Passed};
+ghost use Rattle.vx_dev.specs.Moments.{Told, Passed, HoldsOneOf};
 ghost use Rattle.vx_log.specs.Readings.{IsReading, Commits};
-ghost use Rattle.vx_log.specs.Stages.{IsBodyPut, IsToPut, AreHomesPut, HoldsOneOf};
+ghost use Rattle.vx_log.specs.Stages.{IsBodyPut, IsToPut, AreHomesPut};
 
 use crate::batch::Batch;
 use crate::log::Log;
-use vx_dev::{BlockDev, DevFault};
+use vx_dev::{BlockDev, DevFault, tape_laws};
 
 impl Log {
     /// Writes a batch and makes it count: its log sectors, a barrier, the head sector with the new head, a barrier. After a fault
@@ -33,7 +33,8 @@ impl Log {
         ensures reads { (D.state dev.new).read_faults ≡ (D.state dev.old).read_faults }
         ensures cause { HasCause (D.state dev.old).write_faults (D.state dev.new).write_faults result }
     {
-        // The proof wants to know that the log has sectors.
+        // The proof rests on this law, and wants to know that the log has sectors.
+        tape_laws();
         let _head = self.head();
         self.close_batch(batch);
         put_all(self, dev)?;
@@ -61,6 +62,8 @@ impl Log {
         ensures reads { (D.state dev.new).read_faults ≡ (D.state dev.old).read_faults }
         ensures cause { HasCause (D.state dev.old).write_faults (D.state dev.new).write_faults result }
     {
+        // The proof rests on this law; nothing runs here.
+        tape_laws();
         let head = self.head();
         dev.barrier()?;
         self.advance_tail(dev, head)?;
@@ -84,6 +87,8 @@ fn put_all<D: BlockDev>(log: &mut Log, dev: &mut D) -> Result<(), DevFault>
     ensures reads { (D.state dev.new).read_faults ≡ (D.state dev.old).read_faults }
     ensures cause { HasCause (D.state dev.old).write_faults (D.state dev.new).write_faults result }
 {
+    // The proof rests on this law; nothing runs here.
+    tape_laws();
     while !log.put_next(dev)? {}
     Ok(())
 }

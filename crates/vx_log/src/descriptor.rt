@@ -4,8 +4,8 @@ ghost use Rattle.std.specs.Int.{w32, w64, to_le_bytes};
 ghost use Rattle.vx_layout.specs.LogForms as forms;
 
 use crate::batch::AfterImage;
-use crate::sheet::Sheet;
 use vx_base::SectorNo;
+use vx_layout::Sheet;
 
 /// The descriptor, at this position of the log, of the record of these after-images.
 #[tactic(auto, unfolding(vx_layout::specs::LogForms::descriptor))]
@@ -34,11 +34,11 @@ pub fn descriptor_of(position: u64, homes: &[SectorNo]) -> [u8; 512]
 }
 
 /// A descriptor up to its homes, of which there are so many.
-fn begun(position: u64, count: usize) -> Sheet
+fn begun(position: u64, count: usize) -> Sheet<512>
     requires { count ≤ 124 }
     ensures { result ≡ forms.record_magic ++ to_le_bytes w32 count ++ to_le_bytes w64 position }
 {
-    let mut sheet = Sheet::new();
+    let mut sheet = Sheet::<512>::new();
     sheet.put(b"VXRC");
     sheet.put_u32(count as u32);
     sheet.put_u64(position);

@@ -9,10 +9,15 @@ ghost use Rattle.vx_layout.specs.LogForms.{AfterImage, IsNameable, IsRecord, Log
 ghost use Rattle.vx_log.specs.Batches.{sectors_of, batch_set, IsBatch};
 ghost use Rattle.vx_log.specs.Crashes.{IsApart, Holds, Stands, Either, Turns, IsDecided, IsFree, grown, Covers, trimmed, emptied, IsPut, IsCertainBody, IsPutHome, IsStableHome, IsHome, IsHomeBut};
 ghost use Rattle.vx_log.specs.Logs.{next_serial};
-ghost use Rattle.vx_log.specs.Moments.{Told, Passed};
-ghost use Rattle.vx_log.specs.RunLaws.{RunLaws};
-ghost use Rattle.vx_log.specs.Runs.{Ran, BrokeOff, puts, log_writes};
-ghost use Rattle.vx_log.specs.Stages.{IsBodyPut, IsFitting, AreHomes, AreWritten, HoldsOneOf, AreAmong};
+ghost use Rattle.vx_log.specs.NoteLaws.{NoteLaws};
+ghost use Rattle.vx_log.specs.OrderLaws.{OrderLaws};
+ghost use Rattle.vx_dev.specs.Moments.{Told, Passed, HoldsOneOf, AreAmong};
+ghost use Rattle.vx_dev.specs.RunLaws.{RunLaws};
+ghost use Rattle.vx_dev.specs.Runs.{Ran, BrokeOff, puts};
+ghost use Rattle.vx_log.specs.Writes.{log_writes};
+ghost use Rattle.vx_log.specs.Stages.{IsBodyPut, IsFitting, AreHomes, AreWritten};
+
+use vx_dev::tape_laws;
 
 /// What the after-images of a batch make of a sector.
 pub fn batch_laws()
@@ -24,6 +29,16 @@ pub fn batch_laws()
     ensures form { (n size : ℕ) (batch : List AfterImage) → IsStrictlyIncreasing (sectors_of batch) → AllByRecursion (IsNameable n size) (sectors_of batch) → AllByRecursion (IsRecord n size) (records_of batch) }
 {}
 
+/// What a list of after-images says of a sector, after a note and after the notes of a batch.
+pub fn note_laws()
+    ensures { NoteLaws }
+{}
+
+/// How after-images stand in the order of their sectors.
+pub fn order_laws()
+    ensures { OrderLaws }
+{}
+
 /// What an image that a crash may leave is read as.
 pub fn image_laws()
     ensures stands { (n : ℕ) (r : LogState) (t : Tape) (image : ℕ → List ℕ) → Stands n r t → IsImage t image → ReadsAs n r image }
@@ -31,7 +46,9 @@ pub fn image_laws()
     ensures written { (n : ℕ) (r : LogState) (t : Tape) (op : Operation) (u : ℕ) (bytes : List ℕ) → Writes op u bytes → IsFree n r u → u ≢ 2 → Stands n r t → Stands n r (did op t) }
     ensures barrier { (n : ℕ) (r : LogState) (t : Tape) → Stands n r t → Stands n r (did Barrier t) }
     ensures fewer { (n : ℕ) (r : LogState) (is_metadata : ℕ → Bool) (t : Tape) → ((s : ℕ) → IsTrue (is_metadata s) → IsTrue (r.is_metadata s)) → Stands n r t → Stands n (record r { is_metadata = is_metadata }) t }
-{}
+{
+    tape_laws();
+}
 
 /// A batch's log sectors are written, one by one and in stages, and a barrier passes behind them.
 pub fn body_laws()
@@ -44,7 +61,9 @@ pub fn body_laws()
     ensures broken { (n : ℕ) (r : LogState) (batch : List AfterImage) (from end : ℕ) (old new : State) → IsFitting n r batch → from ≤ end → end ≤ length (body_of r.head batch)
         → BrokeOff (log_writes n (r.head + from) (slice_range (body_of r.head batch) from end)) old new
         → Told old (IsBodyPut n r batch from) → Passed (ReadsAs n r) old new }
-{}
+{
+    tape_laws();
+}
 
 /// The head sector with a new batch or a new tail is written, and a barrier passes behind it.
 pub fn head_laws()
@@ -57,7 +76,9 @@ pub fn head_laws()
     ensures written { (n : ℕ) (r r2 : LogState) (old new : State) → Did (Put 2 (head_of r2)) old new → Told old (λ t. Stands n r t × Holds n r2 t) → Told new (Turns n r r2) }
     ensures failed { (n : ℕ) (r r2 : LogState) (old new : State) → Failed 2 (head_of r2) old new → Told old (λ t. Stands n r t × Holds n r2 t) → Told new (Either n r r2) }
     ensures passed { (n : ℕ) (r r2 : LogState) (old new : State) → Did Barrier old new → Told old (Turns n r r2) → Told new (Stands n r2) }
-{}
+{
+    tape_laws();
+}
 
 /// Committed sectors are written home, one by one and in stages, and a barrier passes behind them.
 pub fn home_laws()
@@ -69,17 +90,6 @@ pub fn home_laws()
         → Told old (Stands n r) → Told new (AreWritten n r writes) × Passed (ReadsAs n r) old new }
     ensures broken { (n : ℕ) (r : LogState) (writes : List (ℕ × List ℕ)) (old new : State) → 0 < n → AreHomes r writes → BrokeOff writes old new
         → Told old (Stands n r) → Passed (ReadsAs n r) old new }
-{}
-
-/// Several sectors are written, and those of the writes that go to one sector leave one of these values there.
-pub fn value_laws()
-    ensures stage { (s : ℕ) (values : List (List ℕ)) (writes : List (ℕ × List ℕ)) (old new : State) → AreAmong s values writes → Ran (puts writes) old new
-        → Told old (HoldsOneOf s values) → Told new (HoldsOneOf s values) × Passed (λ image. Contains values (image s)) old new }
-    ensures broken { (s : ℕ) (values : List (List ℕ)) (writes : List (ℕ × List ℕ)) (old new : State) → AreAmong s values writes → BrokeOff writes old new
-        → Told old (HoldsOneOf s values) → Passed (λ image. Contains values (image s)) old new }
-{}
-
-/// How runs of operations grow, and how they break off.
-pub fn run_laws()
-    ensures { RunLaws }
-{}
+{
+    tape_laws();
+}

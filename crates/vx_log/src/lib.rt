@@ -10,15 +10,15 @@ mod head;
 mod laws;
 mod log;
 mod read;
-mod sheet;
 mod stage;
 
 pub use batch::{AfterImage, Batch};
 pub use body::log_length;
 pub use head::head_sector;
-pub use laws::{batch_laws, body_laws, head_laws, home_laws, image_laws, run_laws, value_laws};
+pub use laws::{batch_laws, body_laws, head_laws, home_laws, image_laws, note_laws, order_laws};
 pub use log::Log;
 pub use read::{Descriptor, Ends, read_descriptor, read_head};
+pub use stage::log_sector;
 
 #[cfg(test)]
 mod tests;

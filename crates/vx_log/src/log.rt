@@ -5,9 +5,9 @@ ghost use Rattle.vx_dev.specs.Tape.{Did, Failed};
 ghost use Rattle.vx_dev.specs.declared.device.Operation.TheVariants.{Put};
 ghost use Rattle.vx_layout.specs.LogForms as forms;
 ghost use Rattle.vx_layout.specs.LogForms.{IsHomeSector};
-ghost use Rattle.vx_log.specs.Runs.{Ran, BrokeOff, puts};
+ghost use Rattle.vx_dev.specs.Runs.{Ran, BrokeOff, puts};
 ghost use Rattle.vx_log.specs.Ends.{IsEnds, standing_log};
-ghost use Rattle.vx_log.specs.Logs.{LogView, IsLog, AreStarts, IsBoundary, next_serial, fresh_log, closed, closing_length, stage_writes, after_stage, is_body_out, opened, advanced, has_spare};
+ghost use Rattle.vx_log.specs.Logs.{LogView, IsLog, AreStarts, IsBoundary, next_serial, fresh_log, closed, closing_length, stage_writes, after_stage, is_body_out, opened, advanced, restarted, has_spare};
 
 use crate::batch::Batch;
 use crate::body::log_length;
@@ -240,6 +240,29 @@ impl Log {
         self.serial = serial;
         self.tail = to;
         drop_below(&mut self.starts, to);
+        Ok(())
+    }
+
+    /// Writes the head sector of an empty log whose positions begin at 0 again, where every home is
+    /// stable. After a fault the log is as before, and the head sector may be written or not.
+    pub fn restart<D: BlockDev>(&mut self, dev: &mut D) -> Result<(), DevFault>
+        requires free { IsNone self.old.closing }
+        requires area { 4 + self.old.sectors ≤ (D.state dev.old).size }
+        ensures put { OnOk result (Did (Put 2 (forms.head_sector (next_serial self.old.serial) 0 0)) (D.state dev.old) (D.state dev.new)) }
+        ensures certain { OnOk result ((D.state dev.new).doubt ≡ (D.state dev.old).doubt) }
+        ensures restarted { OnOk result (self.new ≡ restarted self.old) }
+        ensures failed { OnErr result (Failed 2 (forms.head_sector (next_serial self.old.serial) 0 0) (D.state dev.old) (D.state dev.new)) }
+        ensures same { OnErr result (self.new ≡ self.old) }
+        ensures size { (D.state dev.new).size ≡ (D.state dev.old).size }
+        ensures reads { (D.state dev.new).read_faults ≡ (D.state dev.old).read_faults }
+        ensures cause { HasCause (D.state dev.old).write_faults (D.state dev.new).write_faults result }
+    {
+        let serial = self.serial.wrapping_add(1);
+        dev.write(HEAD_SECTOR, &head_sector(serial, 0, 0))?;
+        self.serial = serial;
+        self.tail = 0;
+        self.head = 0;
+        self.starts.clear();
         Ok(())
     }
 }

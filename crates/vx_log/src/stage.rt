@@ -2,19 +2,21 @@
 ghost use Rattle.std.specs.Prelude.{◌≡◌, ◌+◌, ◌<◌, ◌≤◌, ◌^◌, OnOk, OnErr, length, slice_range};
 ghost use Rattle.vx_base.specs.Faults.{HasCause};
 ghost use Rattle.vx_layout.specs.LogForms.{log_at, body_of, log_length};
-ghost use Rattle.vx_log.specs.Runs.{Ran, BrokeOff, puts, log_writes};
+ghost use Rattle.vx_dev.specs.Runs.{Ran, BrokeOff, puts};
+ghost use Rattle.vx_log.specs.Writes.{log_writes};
 
 use crate::batch::AfterImage;
 use crate::body::body_sector;
-use vx_dev::{BlockDev, DevFault};
+use vx_dev::{BlockDev, DevFault, run_laws};
 
 /// The first sector of the log.
 const FIRST_SECTOR: u64 = 4;
 
-/// The sector of the device where a position of the log stands.
-fn place_of(sectors: u32, position: u64) -> u64
+/// The sector of the device where a position of a log of so many sectors stands.
+pub fn log_sector(sectors: u32, position: u64) -> u64
     requires { 0 < sectors }
-    ensures { result ≡ log_at sectors position }
+    ensures place { result ≡ log_at sectors position }
+    ensures within { result < 4 + sectors }
 {
     FIRST_SECTOR + position % u64::from(sectors)
 }
@@ -42,8 +44,10 @@ pub fn put_body<D: BlockDev>(
     ensures reads { (D.state dev.new).read_faults ≡ (D.state dev.old).read_faults }
     ensures cause { HasCause (D.state dev.old).write_faults (D.state dev.new).write_faults result }
 {
+    // The proof rests on this law; nothing runs here.
+    run_laws();
     for i in from..end {
-        let at = place_of(sectors, head + u64::from(i));
+        let at = log_sector(sectors, head + u64::from(i));
         dev.write(at, &body_sector(head, batch, i))?;
     }
     Ok(())

@@ -81,5 +81,8 @@ fn first_commit(rt: HostRuntime) -> Result<(), Fail> {
     let head = log.head();
     log.advance_tail(&mut disk, head)?;
     assert_eq!(rt; log.room(), 1024);
+    log.restart(&mut disk)?;
+    assert_eq!(rt; log.head(), 0);
+    assert_eq!(rt; log.serial(), 4);
     Ok(())
 }

@@ -10,7 +10,7 @@ use Rattle.vx_layout.specs.declared.superblock.Super.{Super}
 use Rattle.vx_layout.specs.LogForms.{head_sector}
 use Rattle.vx_layout.specs.Places.{Volume, bitmap_sector, sectors_of}
 use Rattle.vx_layout.specs.Supers.{IsSuper, super_bytes, volume_of}
-use Rattle.vx_log.specs.Moments.{Told}
+use Rattle.vx_dev.specs.Moments.{Told}
 use Rattle.vx_model.specs.Contents.{unit_sectors, unit_bytes, IsFormatted}
 use Rattle.vx_model.specs.Reads.{ImageReadsAs}
 use Rattle.vx_model.specs.Replays.{IsLeft}

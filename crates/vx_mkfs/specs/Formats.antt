@@ -7,13 +7,6 @@ use Rattle.vx_layout.specs.Places.{Volume, per_block, bitmap_sector}
 use Rattle.vx_layout.specs.Supers.{super_bytes, volume_of}
 use Rattle.vx_model.specs.Contents.{unit_sectors, unit_bytes, IsFormatted}
 
--- operations may have been added; nothing else but the count of failed writes has changed
-pub record Onward (old new : State) : Type 0 where
-  pub size : new.size ≡ old.size
-  pub later : old.count ≤ new.count
-  pub reads : new.read_faults ≡ old.read_faults
-  pub faults : old.write_faults ≤ new.write_faults
-
 -- the operations of formatting: the sectors of each unit, the log's head, a barrier, the superblock and a barrier
 abbrev pub format_operations : Super → ℕ
 format_operations v = unit_sectors (volume_of v) * v.units + 4

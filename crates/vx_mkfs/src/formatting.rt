@@ -3,17 +3,17 @@ ghost use Rattle.std.specs.Prelude.{◌≡◌, ◌<◌, ◌≤◌, ◌+◌, ◌*
 ghost use Rattle.vx_base.specs.Faults.{HasCause};
 ghost use Rattle.vx_layout.specs.Places.{sectors_of};
 ghost use Rattle.vx_layout.specs.Supers.{IsSuper, volume_of};
-ghost use Rattle.vx_log.specs.Moments.{Told};
+ghost use Rattle.vx_dev.specs.Moments.{Told};
 ghost use Rattle.vx_model.specs.Contents.{fresh_root, new_bitmap, unit_bytes};
 ghost use Rattle.vx_model.specs.Replays.{IsLeft};
 ghost use Rattle.vx_model.specs.Tree.{empty_root};
-ghost use Rattle.vx_mkfs.specs.Formats.{Onward, HasUnits, IsNewImage, format_operations};
+ghost use Rattle.vx_dev.specs.Runs.{Onward};
+ghost use Rattle.vx_mkfs.specs.Formats.{HasUnits, IsNewImage, format_operations};
 
-use crate::device::{pass, put};
 use vx_base::{ExtAttrs, FileKind, Inode, InodeValue};
 use vx_codec::{inode_sector, write_bits};
-use vx_dev::{BlockDev, DevFault, tape_laws};
-use vx_layout::Super;
+use vx_dev::{BlockDev, DevFault, pass, put, tape_laws};
+use vx_layout::{Super, super_places};
 use vx_log::head_sector;
 use vx_model::states::fresh_reads;
 

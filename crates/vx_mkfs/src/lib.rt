@@ -1,7 +1,6 @@
 //! A new file system, clean and empty, with a log of any size and any number of allocation units.
 #![tactic(auto)]
 
-mod device;
 mod formatting;
 
 pub use formatting::make;

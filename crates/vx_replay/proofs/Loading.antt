@@ -4,8 +4,8 @@ use Rattle.std.specs.List.{AllByRecursion}
 use Rattle.std.proofs.lemmas.List.{take_more}
 use Rattle.vx_layout.specs.LogForms.{AfterImage, IsRecord, log_sectors, record_sectors}
 use Rattle.vx_log.specs.Logs.{AreStarts, AreAfter}
-use Rattle.vx_home.specs.Homes.{with_notes}
-use Rattle.vx_home.specs.NoteLaws.{NoteLaws}
+use Rattle.vx_log.specs.Batches.{with_notes}
+use Rattle.vx_log.specs.NoteLaws.{NoteLaws}
 use Rattle.vx_replay.specs.LogReads.{image_count, starts_at}
 use Rattle.vx_replay.specs.Stopped.{noted_all}
 use Rattle.vx_replay.proofs.LogReading.{sectors_push, length-images}

@@ -11,8 +11,8 @@ use Rattle.vx_layout.specs.LogForms.{AfterImage, IsRecord, LogState, head_sector
 use Rattle.vx_layout.specs.Places.{sectors_of}
 use Rattle.vx_layout.specs.Supers.{IsSuper, super_bytes, volume_of}
 use Rattle.vx_log.specs.Crashes.{Stands}
-use Rattle.vx_log.specs.Moments.{Told, Passed}
-use Rattle.vx_log.proofs.Passing.{passed_did, passed_join, passed_still, told_weaker}
+use Rattle.vx_dev.specs.Moments.{Told, Passed}
+use Rattle.vx_dev.proofs.Claims.{passed_did, passed_join, passed_still, told_weaker}
 use Rattle.vx_model.specs.Reads.{ImageReadsAs}
 use Rattle.vx_model.specs.Replays.{ReplaysAs, IsLeft}
 use Rattle.vx_model.specs.Tree.{Tree}

@@ -14,8 +14,8 @@ use Rattle.vx_log.specs.Batches as batches
 use Rattle.vx_log.specs.Crashes.{Stands, IsPutHome, emptied}
 use Rattle.vx_log.specs.Stages.{AreHomes, AreWritten, AreHomesPut}
 use Rattle.vx_log.specs.Logs.{next_serial}
-use Rattle.vx_home.specs.Homes.{with_notes, noted_at}
-use Rattle.vx_home.specs.NoteLaws.{NoteLaws}
+use Rattle.vx_log.specs.Batches.{with_notes, noted_at}
+use Rattle.vx_log.specs.NoteLaws.{NoteLaws}
 use Rattle.vx_model.specs.Reads.{ImageReadsAs}
 use Rattle.vx_model.specs.Replays.{HasRecords, ReplaysAs}
 use Rattle.vx_model.specs.Tree.{Tree}

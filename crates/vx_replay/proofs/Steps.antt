@@ -10,11 +10,11 @@ use Rattle.vx_layout.specs.declared.superblock.Super.{Super}
 use Rattle.vx_layout.specs.LogForms.{AfterImage, LogState, ReadsAs, log_at, log_sectors, overlay_all}
 use Rattle.vx_layout.specs.Supers.{IsSuper, super_bytes, volume_of}
 use Rattle.vx_log.specs.Crashes.{Stands, emptied}
-use Rattle.vx_log.specs.Moments.{Told, Always, Passed}
+use Rattle.vx_dev.specs.Moments.{Told, Always, Passed, HoldsOneOf}
 use Rattle.vx_log.specs.Readings.{IsReading}
-use Rattle.vx_log.specs.Runs.{did_all, Ran, BrokeOff, puts}
-use Rattle.vx_log.specs.Stages.{AreWritten, AreHomesPut, HoldsOneOf}
-use Rattle.vx_log.proofs.Passing.{passed_join, passed_still, passed_weaker, told_weaker}
+use Rattle.vx_dev.specs.Runs.{did_all, Ran, BrokeOff, puts}
+use Rattle.vx_log.specs.Stages.{AreWritten, AreHomesPut}
+use Rattle.vx_dev.proofs.Claims.{passed_join, passed_still, passed_weaker, told_weaker}
 use Rattle.vx_model.specs.Reads.{ImageReadsAs}
 use Rattle.vx_model.specs.Replays.{HasRecords, ReplaysAs}
 use Rattle.vx_model.specs.Tree.{Tree}

@@ -10,10 +10,10 @@ use Rattle.vx_layout.specs.LogForms.{AfterImage, IsRecord, LogState, ReadsAs, he
 use Rattle.vx_layout.specs.Places.{Volume, outside, place_of, IsVolume}
 use Rattle.vx_layout.specs.Supers.{IsSuper, super_bytes, volume_of}
 use Rattle.vx_log.specs.Crashes.{Stands, IsFree}
-use Rattle.vx_log.specs.Moments.{Told, Passed}
-use Rattle.vx_log.specs.Runs.{Ran, BrokeOff, puts}
-use Rattle.vx_log.specs.Stages.{AreHomes, AreWritten, HoldsOneOf, AreAmong}
-use Rattle.vx_home.specs.NoteLaws.{NoteLaws}
+use Rattle.vx_dev.specs.Moments.{Told, Passed, HoldsOneOf, AreAmong}
+use Rattle.vx_dev.specs.Runs.{Ran, BrokeOff, puts}
+use Rattle.vx_log.specs.Stages.{AreHomes, AreWritten}
+use Rattle.vx_log.specs.NoteLaws.{NoteLaws}
 use Rattle.vx_model.specs.Reads.{ImageReadsAs}
 use Rattle.vx_model.specs.Tree.{Tree}
 

@@ -7,7 +7,7 @@ use Rattle.vx_layout.specs.Supers.{IsSuper, super_bytes, volume_of}
 use Rattle.vx_layout.specs.LogForms.{AfterImage, LogState, log_sectors, overlay_all}
 use Rattle.vx_log.specs.Ends.{IsEnds, ends_bytes}
 use Rattle.vx_log.specs.declared.read.Ends.{Ends}
-use Rattle.vx_home.specs.Homes.{with_notes}
+use Rattle.vx_log.specs.Batches.{with_notes}
 use Rattle.vx_log.specs.Crashes.{Stands}
 use Rattle.vx_model.specs.Reads.{ImageReadsAs}
 use Rattle.vx_model.specs.Replays.{ReplaysAs}

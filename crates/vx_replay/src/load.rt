@@ -5,7 +5,7 @@ ghost use Rattle.vx_layout.specs.LogForms.{log_sectors, overlay_all};
 ghost use Rattle.vx_layout.specs.Places.{sectors_of};
 ghost use Rattle.vx_layout.specs.Supers.{IsSuper, super_bytes, volume_of};
 ghost use Rattle.vx_log.specs.Ends.{IsEnds, ends_bytes};
-ghost use Rattle.vx_home.specs.Homes.{noted_at};
+ghost use Rattle.vx_log.specs.Batches.{noted_at};
 ghost use Rattle.vx_replay.specs.BadImages.{bad, with_room, checked_super, checked_again, first_super, IsBadSuper, IsBadLog, WhyBadLog};
 ghost use Rattle.vx_replay.specs.LogReads.{Shows, IsRead, StandThere, AreRecords, image_count, starts_at};
 ghost use Rattle.vx_replay.specs.Refusals.{IsReadRefusal, IsLogRefusal, IsSuperRefusal};
@@ -16,10 +16,10 @@ use crate::refusal::ReplayRefusal;
 use std::alloc::{AllocError, Global};
 use vx_base::SectorNo;
 use vx_dev::{BlockDev, DevFault};
-use vx_home::{Homes, note_laws};
+use vx_home::Homes;
 use vx_layout::fields::u32_at;
 use vx_layout::{BadSuper, Super, sectors_needed};
-use vx_log::{Ends, Log, read_head};
+use vx_log::{Ends, Log, note_laws, read_head};
 
 /// The field of the superblock that is the log's length.
 const LOG_FIELD: u32 = 4;

@@ -13,10 +13,7 @@ use std::alloc::{AllocError, Global};
 use std::marker::Model;
 use vx_base::SectorNo;
 use vx_dev::{BlockDev, DevFault};
-use vx_log::{AfterImage, Ends, read_descriptor};
-
-/// The first sector of the log.
-const FIRST_SECTOR: u64 = 4;
+use vx_log::{AfterImage, Ends, log_sector, read_descriptor};
 
 /// The after-images of a record.
 #[derive(Drop)]
@@ -61,15 +58,6 @@ impl Record {
     }
 }
 
-/// The sector of the device where a position of a log of so many sectors stands.
-fn place_of(sectors: u32, position: u64) -> u64
-    requires { 0 < sectors }
-    ensures place { result ≡ log_at sectors position }
-    ensures within { result < 4 + sectors }
-{
-    FIRST_SECTOR + position % u64::from(sectors)
-}
-
 /// A sector of the device.
 pub fn read_sector<D: BlockDev>(dev: &mut D, s: u64) -> Result<[u8; 512], DevFault>
     requires { s < (D.state dev.old).size }
@@ -101,7 +89,7 @@ fn read_images<D: BlockDev>(
 {
     let mut record = Record::new(alloc);
     for i in 0..homes.len() {
-        let place = place_of(sectors, position + i as u64);
+        let place = log_sector(sectors, position + i as u64);
         match read_sector(dev, place) {
             Ok(image) => match record.push((homes[i], image)) {
                 Ok(()) => {}
@@ -131,7 +119,7 @@ fn read_record<D: BlockDev>(
     ensures read { IsRead (D.state dev.old) (D.state dev.new) }
     ensures cause { IsLogRefusal (D.state dev.old) (D.state dev.new) result }
 {
-    let place = place_of(sectors, position);
+    let place = log_sector(sectors, position);
     let size = dev.sectors();
     match read_sector(dev, place) {
         Ok(sector) => match read_descriptor(&sector, position, sectors, size) {

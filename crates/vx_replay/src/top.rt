@@ -1,7 +1,7 @@
 //! The whole replay of an image.
 ghost use Rattle.std.specs.Prelude.{◌≡◌, ◌+◌, ◌==◌, ◌&&◌, ℕ, Ok, Err, length};
 ghost use Rattle.vx_dev.specs.Tape.{Tape, now};
-ghost use Rattle.vx_log.specs.Moments.{Told, Always};
+ghost use Rattle.vx_dev.specs.Moments.{Told, Always};
 ghost use Rattle.vx_model.specs.Replays.{ReplaysAs, IsClean, IsLeft};
 ghost use Rattle.vx_model.specs.Tree.{Tree};
 ghost use Rattle.vx_replay.specs.BadImages.{IsBadSuper, IsBadLog};

@@ -4,17 +4,16 @@ ghost use Rattle.vx_base.specs.Faults.{HasCause};
 ghost use Rattle.vx_dev.specs.Tape.{Tape};
 ghost use Rattle.vx_layout.specs.Places.{sectors_of};
 ghost use Rattle.vx_layout.specs.Supers.{IsSuper, volume_of};
-ghost use Rattle.vx_log.specs.Moments.{Told, Always, Passed};
+ghost use Rattle.vx_dev.specs.Moments.{Told, Always, Passed};
 ghost use Rattle.vx_model.specs.Replays.{ReplaysAs, IsLeft};
 ghost use Rattle.vx_model.specs.Tree.{Tree};
 ghost use Rattle.vx_replay.specs.ReplayLaws.{ReplayLaws};
 ghost use Rattle.vx_replay.specs.Stopped.{CanCarry, IsReplayOf, IsEmptied};
 
 use crate::load::Stopped;
-use vx_dev::{BlockDev, DevFault, tape_laws};
-use vx_home::note_laws;
+use vx_dev::{BlockDev, DevFault, tape_laws, value_laws};
 use vx_layout::{Super, log_spelling, super_places, super_spelling};
-use vx_log::{home_laws, image_laws, value_laws};
+use vx_log::{home_laws, image_laws, note_laws};
 use vx_model::reads::reads_alike;
 
 /// Writes home what the log holds, moves its tail to its head, and marks the image clean: a barrier, the homes, a barrier, the

@@ -4,7 +4,7 @@ use Rattle.std.specs.Prelude.{All, IfSome, IsSome}
 use Rattle.vx_base.specs.declared.event.Event.{Event}
 use Rattle.vx_base.specs.declared.event.Event.TheVariants as event
 use Rattle.vx_dev.specs.Tape.{State as Device}
-use Rattle.vx_log.specs.Moments.{Told, Passed}
+use Rattle.vx_dev.specs.Moments.{Told, Passed}
 use Rattle.vx_model.specs.Allowed.{come_by}
 use Rattle.vx_model.specs.AllowedLaws.{IsPlaced, AllowedLaws}
 use Rattle.vx_model.specs.EditLaws.{EditLaws}
@@ -13,7 +13,7 @@ use Rattle.vx_model.specs.Replays.{ReplaysAs}
 use Rattle.vx_model.specs.State.{State}
 use Rattle.vx_model.proofs.Runs.{after_all-append}
 use Rattle.vx_run.specs.Cores.{beginning, IsBase, IsRun, IsLive}
-use Rattle.vx_kernel.specs.Devices.{Onward}
+use Rattle.vx_dev.specs.Runs.{Onward}
 use Rattle.vx_kernel.specs.Journals.{IsAtRest, IsKept}
 use Rattle.vx_run.specs.declared.engine.Core.{Core}
 use Rattle.vx_run.proofs.Carrying.{mounted_released}

@@ -6,8 +6,8 @@ use Rattle.vx_dev.specs.Tape.{State as Device, Tape}
 use Rattle.vx_layout.specs.LogForms.{AfterImage, IsRecord, LogState}
 use Rattle.vx_layout.specs.Places.{Volume}
 use Rattle.vx_log.specs.Logs.{LogView}
-use Rattle.vx_log.specs.Moments.{Told, Passed}
-use Rattle.vx_log.proofs.Passing.{passed_join, passed_weaker}
+use Rattle.vx_dev.specs.Moments.{Told, Passed}
+use Rattle.vx_dev.proofs.Claims.{passed_join, passed_weaker}
 use Rattle.vx_model.specs.Contents.{parsed_of}
 use Rattle.vx_model.specs.EditLaws.{EditLaws}
 use Rattle.vx_model.specs.Images.{content_at, IsBatch, Parsed, Says}

@@ -12,8 +12,8 @@ use Rattle.vx_dev.specs.declared.device.Operation.{Operation}
 use Rattle.vx_dev.specs.Tape.{Tape, upto, IsImage}
 use Rattle.vx_layout.specs.LogForms.{AfterImage}
 use Rattle.vx_log.specs.Logs.{LogView}
-use Rattle.vx_log.specs.Moments.{Past, Always}
-use Rattle.vx_log.specs.Runs.{did_all}
+use Rattle.vx_dev.specs.Moments.{Past, Always}
+use Rattle.vx_dev.specs.Runs.{did_all}
 use Rattle.vx_model.specs.Allowed.{come_by, is_refusal, IsAllowed}
 use Rattle.vx_model.specs.AllowedLaws.{IsPlaced, IsQuiet, AllowedLaws}
 use Rattle.vx_model.specs.Legal.{World, after_all, at_of}

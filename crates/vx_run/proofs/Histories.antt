@@ -15,7 +15,7 @@ use Rattle.vx_model.specs.Step.{step}
 use Rattle.vx_model.specs.Legal.{World, Waiting, after, after_all, Legal, Allowed, IfThere, is_fault, tells_failed_write, is_no_space, state_after, RetAllowed, with_released}
 use Rattle.vx_model.proofs.Runs.{after_all-append, Legal-push}
 use Rattle.vx_dev.specs.Tape as dev
-use Rattle.vx_kernel.specs.Devices.{Onward}
+use Rattle.vx_dev.specs.Runs.{Onward}
 use Rattle.vx_run.specs.Cores.{IsRun, IsReply, IsEnded, IsBetween, is_unmounted, IsOfLines, asked_of, numbered, beginning, releases, released_by}
 use Rattle.vx_run.specs.declared.engine.Opened.{Opened}
 

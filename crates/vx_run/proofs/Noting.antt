@@ -6,7 +6,7 @@ use Rattle.vx_base.specs.declared.event.Event.{Event}
 use Rattle.vx_base.specs.declared.event.Event.TheVariants as event
 use Rattle.vx_base.specs.declared.reply.Reply.{Reply}
 use Rattle.vx_dev.specs.Tape.{State as Device}
-use Rattle.vx_log.specs.Moments.{Told}
+use Rattle.vx_dev.specs.Moments.{Told}
 use Rattle.vx_model.specs.Allowed.{come_by, is_refusal, IsAllowed}
 use Rattle.vx_model.specs.AllowedLaws.{IsPlaced, AllowedLaws}
 use Rattle.vx_model.specs.EditLaws.{EditLaws}
@@ -16,7 +16,7 @@ use Rattle.vx_model.specs.State.{State}
 use Rattle.vx_model.specs.Touching.{Touched, untouched}
 use Rattle.vx_model.specs.Waiting.{WaitingLaws}
 use Rattle.vx_run.specs.Cores.{IsBase, IsRun, IsLive, IsAsked, IsBetween, IsUntouched, IsCarried, beginning, releases, released_by}
-use Rattle.vx_kernel.specs.Devices.{Onward}
+use Rattle.vx_dev.specs.Runs.{Onward}
 use Rattle.vx_kernel.specs.Journals.{IsAtRest, IsKept, IsMounted}
 use Rattle.vx_txn.specs.Metas.{IsStateOf}
 use Rattle.vx_run.specs.declared.engine.Core.{Core}

@@ -10,7 +10,7 @@ use Rattle.vx_dev.specs.Tape as dev
 use Rattle.vx_dev.specs.declared.device.DevFault.{DevFault}
 use Rattle.vx_layout.specs.LogForms.{AfterImage}
 use Rattle.vx_log.specs.Logs.{LogView}
-use Rattle.vx_log.specs.Moments.{Told, Past, Passed}
+use Rattle.vx_dev.specs.Moments.{Told, Past, Passed}
 use Rattle.vx_model.specs.Allowed.{come_by, is_refusal, IsAllowed}
 use Rattle.vx_model.specs.AllowedLaws.{IsPlaced}
 use Rattle.vx_model.specs.Replays.{ReplaysAs}

@@ -14,7 +14,7 @@ use Rattle.vx_script.specs.Start.{status_of, refused_text}
 use Rattle.vx_script.specs.Output.{output_of}
 use Rattle.vx_script.specs.Puts.{AppendsPrefix}
 use Rattle.vx_run.specs.Words.{are_words}
-use Rattle.vx_log.specs.Moments.{Told, Always}
+use Rattle.vx_dev.specs.Moments.{Told, Always}
 use Rattle.vx_model.specs.Allowed.{IsAllowed}
 use Rattle.vx_model.specs.Legal.{after_all}
 use Rattle.vx_model.specs.Replays.{IsLeft}

@@ -8,7 +8,7 @@ ghost use Rattle.vx_model.specs.Legal.{tells_failed_write, is_no_space};
 ghost use Rattle.vx_model.specs.Allowed.{is_refusal};
 ghost use Rattle.vx_model.specs.State.{State};
 ghost use Rattle.vx_model.specs.Touching.{untouched};
-ghost use Rattle.vx_kernel.specs.Devices.{Onward};
+ghost use Rattle.vx_dev.specs.Runs.{Onward};
 ghost use Rattle.vx_txn.specs.Metas.{IsStateOf};
 ghost use Rattle.vx_txn.specs.Calls.{HasMode, most};
 ghost use Rattle.std.specs.declared.option.Option.{Option};
@@ -51,7 +51,7 @@ pub struct Core {
 }
 
 impl Core {
-    ghost use Rattle.vx_log.specs.Moments.{Told, Always};
+    ghost use Rattle.vx_dev.specs.Moments.{Told, Always};
     ghost use Rattle.vx_log.specs.Logs.{fresh_log};
     ghost use Rattle.vx_model.specs.Allowed.{IsAllowed};
     ghost use Rattle.vx_model.specs.Legal.{after_all, with_released};

@@ -1,7 +1,7 @@
 use Rattle.std.proofs.Common.{◌+◌, ◌<◌, ◌∙◌, ap, arith, get_or, length}
 use Rattle.std.proofs.lemmas.List.{length-take}
 use Rattle.vx_dev.specs.Picks.{value_number}
-use Rattle.vx_dev.proofs.Picks.{at_may, at_moment, at_picked, at_values, length-puts, within_open, within_settled}
+use Rattle.vx_dev.proofs.Picks.{at_may, at_moment, at_picked, at_values, length-put_values, within_open, within_settled}
 use Rattle.vx_dev.proofs.pick.pick_image.Goals as goal
 
 pub put_counts-requires : goal.put_counts-requires
@@ -11,7 +11,7 @@ put_counts-requires c = λ s bytes has.
 
 pub pick_numbers-requires : goal.pick_numbers-requires
 pick_numbers-requires c = λ s lt.
-    omega (arith, ap (λ l. get_or l s 0) c.as_mut_slice-numbers.ensures.value, c.in_ok-numbers.ensures.counts s, length-puts s c.split_at.result.1.now, c.split_at.ensures.back_len, length-take c.args.moment c.operations.result.now, c.operations.ensures.limit)
+    omega (arith, ap (λ l. get_or l s 0) c.as_mut_slice-numbers.ensures.value, c.in_ok-numbers.ensures.counts s, length-put_values s c.split_at.result.1.now, c.split_at.ensures.back_len, length-take c.args.moment c.operations.result.now, c.operations.ensures.limit)
 
 pub replay-requires : goal.replay-requires
 replay-requires c = λ s bytes has.

@@ -2,7 +2,7 @@ use Rattle.std.proofs.Common.{◌≡◌, ◌+◌, ◌<◌, ◌≤◌, false, sub
 use Rattle.vx_layout.specs.declared.superblock.Super.{Super}
 use Rattle.vx_layout.specs.Places.{sectors_of}
 use Rattle.vx_layout.specs.Supers.{IsSuper, volume_of}
-use Rattle.vx_log.specs.Moments.{Told}
+use Rattle.vx_dev.specs.Moments.{Told}
 use Rattle.std.specs.Prelude.{OnOk, OnErr}
 use Rattle.vx_mkfs.specs.Formats.{IsNewImage, format_operations}
 use Rattle.vx_kernel.specs.Sizes.{superblock_of, unit_volume}

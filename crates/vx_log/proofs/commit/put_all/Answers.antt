@@ -11,7 +11,7 @@ loop-init g c = record {
   later = omega arith;
   reads = refl;
   fine = refl;
-  kept = λ n r batch to_put told. begins n r batch c.args.log.now (g.D.BlockDev.state c.args.dev.now) to_put told;
+  kept = λ n r batch to_put told. begins c.tape_laws.ensures n r batch c.args.log.now (g.D.BlockDev.state c.args.dev.now) to_put told;
 }
 
 pub loop-preserved : goal.loop-preserved
@@ -25,25 +25,25 @@ loop-preserved g c = record {
   fine = c.in_ok-put_next.ensures.cause.fine ∙ c.loop.invariant.fine;
   kept = λ n r batch to_put told.
       let before = c.loop.invariant.kept n r batch to_put told in
-      next_from n r batch c.args.log.now c.loop.log c.put_next.new.self (g.D.BlockDev.state c.args.dev.now) (g.D.BlockDev.state c.loop.dev) (g.D.BlockDev.state c.put_next.new.dev)
+      next_from c.tape_laws.ensures n r batch c.args.log.now c.loop.log c.put_next.new.self (g.D.BlockDev.state c.args.dev.now) (g.D.BlockDev.state c.loop.dev) (g.D.BlockDev.state c.put_next.new.dev)
       to_put c.loop.invariant.same c.loop.invariant.batch c.in_ok-put_next.ensures.stage c.in_ok-put_next.ensures.ok before;
 }
 
 pub returns-in_err-put_next-clause-passed : goal.returns-in_err-put_next-clause-passed
 returns-in_err-put_next-clause-passed g c = λ n r batch to_put told.
     let before = c.loop.invariant.kept n r batch to_put told in
-    broken_from n r batch c.args.log.now c.loop.log (g.D.BlockDev.state c.args.dev.now) (g.D.BlockDev.state c.loop.dev) (g.D.BlockDev.state c.put_next.new.dev)
+    broken_from c.tape_laws.ensures n r batch c.args.log.now c.loop.log (g.D.BlockDev.state c.args.dev.now) (g.D.BlockDev.state c.loop.dev) (g.D.BlockDev.state c.put_next.new.dev)
     to_put c.loop.invariant.same c.loop.invariant.batch c.in_err-put_next.ensures.err before
 
 pub returns-clause-put : goal.returns-clause-put
 returns-clause-put g c = λ n r batch to_put told.
     let before = c.loop.invariant.kept n r batch to_put told in
-    let after = next_from n r batch c.args.log.now c.loop.log c.put_next.new.self (g.D.BlockDev.state c.args.dev.now) (g.D.BlockDev.state c.loop.dev) (g.D.BlockDev.state c.put_next.new.dev)
+    let after = next_from c.tape_laws.ensures n r batch c.args.log.now c.loop.log c.put_next.new.self (g.D.BlockDev.state c.args.dev.now) (g.D.BlockDev.state c.loop.dev) (g.D.BlockDev.state c.put_next.new.dev)
     to_put c.loop.invariant.same c.loop.invariant.batch c.in_ok-put_next.ensures.stage c.in_ok-put_next.ensures.ok before in
-    out_from n r batch c.args.log.now c.put_next.new.self (g.D.BlockDev.state c.put_next.new.dev) to_put (search rules) (search rules) after.1
+    out_from c.tape_laws.ensures n r batch c.args.log.now c.put_next.new.self (g.D.BlockDev.state c.put_next.new.dev) to_put (search rules) (search rules) after.1
 
 pub returns-clause-passed : goal.returns-clause-passed
 returns-clause-passed g c = λ n r batch to_put told.
     let before = c.loop.invariant.kept n r batch to_put told in
-    (next_from n r batch c.args.log.now c.loop.log c.put_next.new.self (g.D.BlockDev.state c.args.dev.now) (g.D.BlockDev.state c.loop.dev) (g.D.BlockDev.state c.put_next.new.dev)
+    (next_from c.tape_laws.ensures n r batch c.args.log.now c.loop.log c.put_next.new.self (g.D.BlockDev.state c.args.dev.now) (g.D.BlockDev.state c.loop.dev) (g.D.BlockDev.state c.put_next.new.dev)
     to_put c.loop.invariant.same c.loop.invariant.batch c.in_ok-put_next.ensures.stage c.in_ok-put_next.ensures.ok before).2

@@ -2,7 +2,7 @@ use Rattle.std.proofs.Common.{◌≡◌, ◌≤◌, ℕ, List, length}
 use Rattle.std.specs.Prelude.{IsSome, option_map}
 use Rattle.vx_layout.specs.LogForms.{AfterImage, LogState, ReadsAs, log_length}
 use Rattle.vx_log.specs.Crashes.{Stands}
-use Rattle.vx_log.specs.Moments.{Told, Passed}
+use Rattle.vx_dev.specs.Moments.{Told, Passed}
 use Rattle.vx_log.specs.Stages.{IsBodyPut, IsToPut}
 use Rattle.vx_log.proofs.CommitRuns.{written_of, body_left}
 use Rattle.vx_log.proofs.commit.put_all.Given as goal

@@ -2,16 +2,16 @@ use Rattle.vx_log.proofs.Operations.{reads, reads_either, stands_put, stands_bar
 use Rattle.vx_log.proofs.laws.image_laws.Goals as goal
 
 pub returns-clause-stands : goal.returns-clause-stands
-returns-clause-stands c = reads
+returns-clause-stands c = reads c.tape_laws.ensures
 
 pub returns-clause-either : goal.returns-clause-either
-returns-clause-either c = reads_either
+returns-clause-either c = reads_either c.tape_laws.ensures
 
 pub returns-clause-written : goal.returns-clause-written
-returns-clause-written c = stands_put
+returns-clause-written c = stands_put c.tape_laws.ensures
 
 pub returns-clause-barrier : goal.returns-clause-barrier
-returns-clause-barrier c = stands_barrier
+returns-clause-barrier c = stands_barrier c.tape_laws.ensures
 
 pub returns-clause-fewer : goal.returns-clause-fewer
 returns-clause-fewer c = λ n r is_metadata t less s. record {

@@ -1,7 +1,8 @@
 use Rattle.std.proofs.Common.{◌≡◌, ◌+◌}
 use Rattle.std.specs.Prelude.{slice_range}
 use Rattle.vx_layout.specs.LogForms.{body_of}
-use Rattle.vx_log.specs.Runs.{Ran, puts, log_writes}
+use Rattle.vx_dev.specs.Runs.{Ran, puts}
+use Rattle.vx_log.specs.Writes.{log_writes}
 use Rattle.vx_log.proofs.stage.put_body.Given as goal
 
 abbrev pub invariant-loop-i : goal.invariant-loop-i

@@ -2,7 +2,7 @@ use Rattle.std.proofs.Common.{◌≡◌, ◌+◌, ◌<◌, ℕ, List, subst, ari
 use Rattle.vx_dev.specs.declared.device.Operation.TheVariants.{Put}
 use Rattle.vx_dev.specs.Tape.{Did}
 use Rattle.vx_layout.specs.Supers.{volume_of}
-use Rattle.vx_log.specs.Moments.{Told}
+use Rattle.vx_dev.specs.Moments.{Told}
 use Rattle.vx_model.specs.Contents.{unit_bytes}
 use Rattle.vx_mkfs.proofs.Formatted.{IsWithin, unit_more, unit_done}
 use Rattle.vx_mkfs.proofs.formatting.put_unit.Goals as goal

@@ -1,8 +1,8 @@
 use Rattle.std.proofs.Common.{◌≡◌, ◌+◌, ◌≤◌}
 use Rattle.vx_layout.specs.Places.{bitmap_sector}
 use Rattle.vx_layout.specs.Supers.{volume_of}
-use Rattle.vx_log.specs.Moments.{Told}
-use Rattle.vx_mkfs.specs.Formats.{Onward}
+use Rattle.vx_dev.specs.Moments.{Told}
+use Rattle.vx_dev.specs.Runs.{Onward}
 use Rattle.vx_mkfs.proofs.Formatted.{IsWithin}
 use Rattle.vx_mkfs.proofs.formatting.put_unit.Given as goal
 

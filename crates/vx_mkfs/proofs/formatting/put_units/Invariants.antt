@@ -1,7 +1,8 @@
 use Rattle.std.proofs.Common.{◌≡◌, ◌+◌, ◌*◌}
 use Rattle.vx_layout.specs.Supers.{volume_of}
-use Rattle.vx_log.specs.Moments.{Told}
-use Rattle.vx_mkfs.specs.Formats.{Onward, HasUnits}
+use Rattle.vx_dev.specs.Moments.{Told}
+use Rattle.vx_dev.specs.Runs.{Onward}
+use Rattle.vx_mkfs.specs.Formats.{HasUnits}
 use Rattle.vx_mkfs.proofs.formatting.put_units.Given as goal
 
 abbrev pub invariant-loop-u : goal.invariant-loop-u

@@ -1,6 +1,6 @@
 use Rattle.std.proofs.Common.{◌≡◌, ◌+◌, ◌≤◌, length, take, sym, subst, ap, ◌∙◌, arith, List}
 use Rattle.vx_layout.specs.LogForms.{AfterImage}
-use Rattle.vx_home.specs.Homes.{with_notes}
+use Rattle.vx_log.specs.Batches.{with_notes}
 use Rattle.vx_replay.specs.LogReads.{image_count}
 use Rattle.vx_replay.proofs.Loading.{noted_more, few_more, count_next}
 use Rattle.vx_replay.proofs.load.homes_of.Goals as goal

@@ -2,7 +2,7 @@ use Rattle.std.proofs.Common.{◌≡◌, ◌*◌, ◌<◌, ℕ, List, [], length
 use Rattle.std.specs.Prelude.{All, Err}
 use Rattle.vx_layout.specs.LogForms.{AfterImage, overlay_all}
 use Rattle.vx_log.specs.Logs.{LogView, AreStarts}
-use Rattle.vx_home.specs.Homes.{noted_at}
+use Rattle.vx_log.specs.Batches.{noted_at}
 use Rattle.vx_replay.specs.BadImages.{checked_again}
 use Rattle.vx_replay.specs.LogReads.{image_count, starts_at}
 use Rattle.vx_replay.specs.Stopped.{noted_all}

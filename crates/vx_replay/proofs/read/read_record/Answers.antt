@@ -16,7 +16,7 @@ returns-else-head-position-clause-stand g c = λ t shows.
     let n = c.args.sectors in
     let position = c.args.position in
     let first : now t (log_at n position) ≡ descriptor position c.homes-homes.result.now =
-    ap (now t) (sym c.place_of-place.ensures.place) ∙ sym (c.in-Ok.ensures.value t shows) ∙ c.in-Some.ensures.found.1 ∙ ap (descriptor position) (sym c.homes-homes.ensures) in
+    ap (now t) (sym c.log_sector-place.ensures.place) ∙ sym (c.in-Ok.ensures.value t shows) ∙ c.in-Some.ensures.found.1 ∙ ap (descriptor position) (sym c.homes-homes.ensures) in
     let later = still_shows (g.D.BlockDev.state c.args.dev.now) (g.D.BlockDev.state c.read_sector.new.dev) t c.read_sector.ensures.read shows in
     both_ok c.read_images.result (λ r. homes_of r ≡ c.homes-homes.result.now) (λ r. StandThere n (now t) (position + 1) (images_of r)) (λ r. StandThere n (now t) position (record_sectors position r))
     (λ r homes images. stand_record n (now t) position r (first ∙ ap (descriptor position) (sym homes)) images)

@@ -1,6 +1,6 @@
 use Rattle.std.proofs.Common.{◌≡◌, ◌+◌, ℕ, length, sym, subst, ◌∙◌}
 use Rattle.vx_dev.specs.Tape.{now}
-use Rattle.vx_log.specs.Moments.{Told, Always}
+use Rattle.vx_dev.specs.Moments.{Told, Always}
 use Rattle.vx_model.specs.Replays.{ReplaysAs, IsLeft}
 use Rattle.vx_replay.proofs.Steps.{replay_of}
 use Rattle.vx_replay.proofs.Recovering.{left_clean, settled, counted}

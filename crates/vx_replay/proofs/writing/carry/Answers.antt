@@ -1,7 +1,7 @@
 use Rattle.std.proofs.Common.{◌+◌, ℕ, List, length, sym, subst}
 use Rattle.std.specs.Prelude.{OnOk}
 use Rattle.vx_layout.specs.declared.superblock.Super.{Super}
-use Rattle.vx_log.specs.Moments.{Told, Passed}
+use Rattle.vx_dev.specs.Moments.{Told, Passed}
 use Rattle.vx_model.specs.Replays.{ReplaysAs, IsLeft}
 use Rattle.vx_replay.specs.Stopped.{IsEmptied}
 use Rattle.vx_replay.proofs.Steps.{told_then}

@@ -3,7 +3,7 @@ use Rattle.std.specs.Prelude.{Result, Ok, Err, OnOk}
 use Rattle.vx_dev.specs.declared.device.DevFault.{DevFault}
 use Rattle.vx_layout.specs.LogForms.{LogState}
 use Rattle.vx_log.specs.Crashes.{Stands, emptied}
-use Rattle.vx_log.specs.Moments.{Told}
+use Rattle.vx_dev.specs.Moments.{Told}
 use Rattle.vx_log.specs.Readings.{IsReading}
 use Rattle.vx_log.specs.Stages.{AreHomesPut}
 use Rattle.vx_replay.proofs.Steps as steps

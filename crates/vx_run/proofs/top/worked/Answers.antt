@@ -5,7 +5,7 @@ use Rattle.std.proofs.lemmas.List.Elements.{All-nil}
 use Rattle.vx_base.specs.declared.event.Event.{Event}
 use Rattle.vx_layout.specs.LogForms.{AfterImage}
 use Rattle.vx_log.specs.Logs.{LogView, fresh_log}
-use Rattle.vx_log.specs.Moments.{Told, Always}
+use Rattle.vx_dev.specs.Moments.{Told, Always}
 use Rattle.vx_model.specs.Allowed.{come_by, IsAllowed}
 use Rattle.vx_model.specs.AllowedLaws.{IsPlaced}
 use Rattle.vx_model.specs.Legal.{after_all}

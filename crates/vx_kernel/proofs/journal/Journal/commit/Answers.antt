@@ -1,8 +1,8 @@
 use Rattle.std.proofs.Common.{◌≡◌, ◌∙◌, List, ap, subst, sym}
 use Rattle.vx_layout.specs.LogForms.{AfterImage}
-use Rattle.vx_log.specs.Moments.{Told}
-use Rattle.vx_log.proofs.Passing.{told_weaker}
-use Rattle.vx_home.specs.Homes.{with_notes}
+use Rattle.vx_dev.specs.Moments.{Told}
+use Rattle.vx_dev.proofs.Claims.{told_weaker}
+use Rattle.vx_log.specs.Batches.{with_notes}
 use Rattle.vx_kernel.specs.Journals.{IsKept}
 use Rattle.vx_kernel.proofs.ReplayLaws.{each}
 use Rattle.vx_kernel.proofs.CommitLaws.{rests, commit_passed, commit_kept, nothing_kept, nothing_passed}

@@ -1,7 +1,7 @@
 use Rattle.std.proofs.Common.{◌≡◌, ◌∙◌, ap, sym}
 use Rattle.vx_log.specs.Crashes.{Stands, emptied}
 use Rattle.vx_log.specs.Logs.{LogView}
-use Rattle.vx_log.specs.Moments.{Told}
+use Rattle.vx_dev.specs.Moments.{Told}
 use Rattle.vx_log.specs.Readings.{IsReading}
 use Rattle.vx_log.specs.Stages.{AreHomesPut}
 use Rattle.vx_kernel.proofs.ReplayLaws.{each, released_told, on_both}

@@ -2,7 +2,7 @@ use Rattle.std.proofs.Common.{◌≡◌, ◌∙◌, List, ℕ, true, ap, subst}
 use Rattle.vx_dev.specs.declared.device.Operation.TheVariants.{Put}
 use Rattle.vx_dev.specs.Tape.{Did, Failed}
 use Rattle.vx_layout.specs.Supers.{super_bytes}
-use Rattle.vx_log.proofs.Passing.{passed_join}
+use Rattle.vx_dev.proofs.Claims.{passed_join}
 use Rattle.vx_kernel.specs.Sizes.{superblock_of}
 use Rattle.vx_kernel.proofs.ReplayLaws.{each, on_done, on_either}
 use Rattle.vx_kernel.proofs.UnmountLaws.{Same, put_passed, put_failed, left, barrier_passed, barrier_failed}

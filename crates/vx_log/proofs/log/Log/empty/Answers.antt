@@ -6,12 +6,12 @@ use Rattle.vx_log.specs.Crashes.{emptied}
 use Rattle.vx_log.specs.Stages.{AreHomesPut}
 use Rattle.vx_log.proofs.CommitRuns.{tail_is, homes_settled, ready_passed, ready_failed, gate_done, gate_passed, gate_failed, turned_to, turned_passed, turned_failed, ReadsOne, on_ok, on_either}
 use Rattle.vx_log.proofs.Elsewhere as other
-use Rattle.vx_log.proofs.Passing.{passed_join}
+use Rattle.vx_dev.proofs.Claims.{passed_join}
 use Rattle.vx_log.proofs.log.Log.empty.Goals as goal
 
 pub returns-in_err-barrier-clause-passed : goal.returns-in_err-barrier-clause-passed
 returns-in_err-barrier-clause-passed g c = λ r reading told.
-    ready_failed c.args.self.now.sectors r (emptied r) (AreHomesPut c.args.self.now.sectors r) (g.D.BlockDev.state c.args.dev.now) (g.D.BlockDev.state c.barrier.new.self) (λ t h. h.stands) c.in_err-barrier.ensures.nothing told
+    ready_failed c.tape_laws.ensures c.args.self.now.sectors r (emptied r) (AreHomesPut c.args.self.now.sectors r) (g.D.BlockDev.state c.args.dev.now) (g.D.BlockDev.state c.barrier.new.self) (λ t h. h.stands) c.in_err-barrier.ensures.nothing told
 
 pub returns-in_err-advance_tail-clause-passed : goal.returns-in_err-advance_tail-clause-passed
 returns-in_err-advance_tail-clause-passed g c = λ r reading told.
@@ -19,10 +19,10 @@ returns-in_err-advance_tail-clause-passed g c = λ r reading told.
     let d0 = g.D.BlockDev.state c.args.dev.now in
     let d1 = g.D.BlockDev.state c.barrier.new.self in
     let d2 = g.D.BlockDev.state c.advance_tail.new.dev in
-    let ready = homes_settled n r d0 d1 c.in_ok-barrier.ensures.passed told in
+    let ready = homes_settled c.tape_laws.ensures n r d0 d1 c.in_ok-barrier.ensures.passed told in
     let failed : Failed 2 (head_of (emptied r)) d1 d2 = subst (λ (b : List ℕ). Failed 2 b d1 d2) (tail_is c.args.self.now r c.head-head.result reading c.head-head.ensures.number) c.in_err-advance_tail.ensures.failed in
-    passed_join (ReadsOne n r (emptied r)) d0 d1 d2 (ready_passed n r (emptied r) (AreHomesPut n r) d0 d1 (λ t h. h.stands) c.in_ok-barrier.ensures.passed told ready)
-    (gate_failed n r (emptied r) d1 d2 failed ready)
+    passed_join (ReadsOne c.tape_laws.ensures n r (emptied r)) d0 d1 d2 (ready_passed c.tape_laws.ensures n r (emptied r) (AreHomesPut n r) d0 d1 (λ t h. h.stands) c.in_ok-barrier.ensures.passed told ready)
+    (gate_failed c.tape_laws.ensures n r (emptied r) d1 d2 failed ready)
 
 pub returns-clause-stands : goal.returns-clause-stands
 returns-clause-stands g c = λ r reading told.
@@ -31,9 +31,9 @@ returns-clause-stands g c = λ r reading told.
     let d1 = g.D.BlockDev.state c.barrier.new.self in
     let d2 = g.D.BlockDev.state c.advance_tail.new.dev in
     let d3 = g.D.BlockDev.state c.barrier-2.new.self in
-    let ready = homes_settled n r d0 d1 c.in_ok-barrier.ensures.passed told in
+    let ready = homes_settled c.tape_laws.ensures n r d0 d1 c.in_ok-barrier.ensures.passed told in
     let put : Did (Put 2 (head_of (emptied r))) d1 d2 = subst (λ (b : List ℕ). Did (Put 2 b) d1 d2) (tail_is c.args.self.now r c.head-head.result reading c.head-head.ensures.number) c.in_ok-advance_tail.ensures.put in
-    on_ok c.barrier-2.result (λ passed. turned_to n r (emptied r) d2 d3 passed (gate_done n r (emptied r) d1 d2 put ready)) c.barrier-2.ensures.passed
+    on_ok c.barrier-2.result (λ passed. turned_to c.tape_laws.ensures n r (emptied r) d2 d3 passed (gate_done c.tape_laws.ensures n r (emptied r) d1 d2 put ready)) c.barrier-2.ensures.passed
 
 pub returns-clause-passed : goal.returns-clause-passed
 returns-clause-passed g c = λ r reading told.
@@ -42,25 +42,25 @@ returns-clause-passed g c = λ r reading told.
     let d1 = g.D.BlockDev.state c.barrier.new.self in
     let d2 = g.D.BlockDev.state c.advance_tail.new.dev in
     let d3 = g.D.BlockDev.state c.barrier-2.new.self in
-    let ready = homes_settled n r d0 d1 c.in_ok-barrier.ensures.passed told in
+    let ready = homes_settled c.tape_laws.ensures n r d0 d1 c.in_ok-barrier.ensures.passed told in
     let put : Did (Put 2 (head_of (emptied r))) d1 d2 = subst (λ (b : List ℕ). Did (Put 2 b) d1 d2) (tail_is c.args.self.now r c.head-head.result reading c.head-head.ensures.number) c.in_ok-advance_tail.ensures.put in
-    let turns = gate_done n r (emptied r) d1 d2 put ready in
-    let first = passed_join (ReadsOne n r (emptied r)) d0 d1 d2 (ready_passed n r (emptied r) (AreHomesPut n r) d0 d1 (λ t h. h.stands) c.in_ok-barrier.ensures.passed told ready)
-    (gate_passed n r (emptied r) d1 d2 put ready) in
-    passed_join (ReadsOne n r (emptied r)) d0 d2 d3 first
-    (on_either c.barrier-2.result c.barrier-2.ensures.passed c.barrier-2.ensures.nothing (λ passed. turned_passed n r (emptied r) d2 d3 passed turns) (λ nothing. turned_failed n r (emptied r) d2 d3 nothing turns))
+    let turns = gate_done c.tape_laws.ensures n r (emptied r) d1 d2 put ready in
+    let first = passed_join (ReadsOne c.tape_laws.ensures n r (emptied r)) d0 d1 d2 (ready_passed c.tape_laws.ensures n r (emptied r) (AreHomesPut n r) d0 d1 (λ t h. h.stands) c.in_ok-barrier.ensures.passed told ready)
+    (gate_passed c.tape_laws.ensures n r (emptied r) d1 d2 put ready) in
+    passed_join (ReadsOne c.tape_laws.ensures n r (emptied r)) d0 d2 d3 first
+    (on_either c.barrier-2.result c.barrier-2.ensures.passed c.barrier-2.ensures.nothing (λ passed. turned_passed c.tape_laws.ensures n r (emptied r) d2 d3 passed turns) (λ nothing. turned_failed c.tape_laws.ensures n r (emptied r) d2 d3 nothing turns))
 
 pub returns-in_err-barrier-clause-elsewhere : goal.returns-in_err-barrier-clause-elsewhere
 returns-in_err-barrier-clause-elsewhere g c = λ s values apart told.
-    other.still s (Contains values) apart (g.D.BlockDev.state c.args.dev.now) (g.D.BlockDev.state c.barrier.new.self) c.in_err-barrier.ensures.nothing told
+    other.still c.tape_laws.ensures s (Contains values) apart (g.D.BlockDev.state c.args.dev.now) (g.D.BlockDev.state c.barrier.new.self) c.in_err-barrier.ensures.nothing told
 
 pub returns-in_err-advance_tail-clause-elsewhere : goal.returns-in_err-advance_tail-clause-elsewhere
 returns-in_err-advance_tail-clause-elsewhere g c = λ s values apart told.
     let d0 = g.D.BlockDev.state c.args.dev.now in
     let d1 = g.D.BlockDev.state c.barrier.new.self in
     let d2 = g.D.BlockDev.state c.advance_tail.new.dev in
-    passed_join (λ image. Contains values (image s)) d0 d1 d2 (other.barrier_step s (Contains values) apart d0 d1 c.in_ok-barrier.ensures.passed told)
-    (other.head_failed s (Contains values) apart _ d1 d2 c.in_err-advance_tail.ensures.failed (other.after_barrier s (Contains values) apart d0 d1 c.in_ok-barrier.ensures.passed told))
+    passed_join (λ image. Contains values (image s)) d0 d1 d2 (other.barrier_step c.tape_laws.ensures s (Contains values) apart d0 d1 c.in_ok-barrier.ensures.passed told)
+    (other.head_failed c.tape_laws.ensures s (Contains values) apart _ d1 d2 c.in_err-advance_tail.ensures.failed (other.after_barrier c.tape_laws.ensures s (Contains values) apart d0 d1 c.in_ok-barrier.ensures.passed told))
 
 pub returns-clause-elsewhere : goal.returns-clause-elsewhere
 returns-clause-elsewhere g c = λ s values apart told.
@@ -68,9 +68,9 @@ returns-clause-elsewhere g c = λ s values apart told.
     let d1 = g.D.BlockDev.state c.barrier.new.self in
     let d2 = g.D.BlockDev.state c.advance_tail.new.dev in
     let d3 = g.D.BlockDev.state c.barrier-2.new.self in
-    let first = other.after_barrier s (Contains values) apart d0 d1 c.in_ok-barrier.ensures.passed told in
-    let second = other.after_head s (Contains values) apart _ d1 d2 c.in_ok-advance_tail.ensures.put first in
-    let front = passed_join (λ image. Contains values (image s)) d0 d1 d2 (other.barrier_step s (Contains values) apart d0 d1 c.in_ok-barrier.ensures.passed told)
-    (other.head_step s (Contains values) apart _ d1 d2 c.in_ok-advance_tail.ensures.put first) in
+    let first = other.after_barrier c.tape_laws.ensures s (Contains values) apart d0 d1 c.in_ok-barrier.ensures.passed told in
+    let second = other.after_head c.tape_laws.ensures s (Contains values) apart _ d1 d2 c.in_ok-advance_tail.ensures.put first in
+    let front = passed_join (λ image. Contains values (image s)) d0 d1 d2 (other.barrier_step c.tape_laws.ensures s (Contains values) apart d0 d1 c.in_ok-barrier.ensures.passed told)
+    (other.head_step c.tape_laws.ensures s (Contains values) apart _ d1 d2 c.in_ok-advance_tail.ensures.put first) in
     passed_join (λ image. Contains values (image s)) d0 d2 d3 front
-    (on_either c.barrier-2.result c.barrier-2.ensures.passed c.barrier-2.ensures.nothing (λ passed. other.barrier_step s (Contains values) apart d2 d3 passed second) (λ nothing. other.still s (Contains values) apart d2 d3 nothing second))
+    (on_either c.barrier-2.result c.barrier-2.ensures.passed c.barrier-2.ensures.nothing (λ passed. other.barrier_step c.tape_laws.ensures s (Contains values) apart d2 d3 passed second) (λ nothing. other.still c.tape_laws.ensures s (Contains values) apart d2 d3 nothing second))

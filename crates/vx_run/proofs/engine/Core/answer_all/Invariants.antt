@@ -3,7 +3,7 @@ use Rattle.std.specs.Prelude.{vec_capacity}
 use Rattle.std.specs.Vec.Iter.{into_iter_items}
 use Rattle.vx_run.specs.Cores.{CameWithin, IsCore, IsOfLines, TellsFaults}
 use Rattle.vx_run.specs.Faults.{AreInOrder}
-use Rattle.vx_kernel.specs.Devices.{Onward}
+use Rattle.vx_dev.specs.Runs.{Onward}
 use Rattle.vx_run.proofs.engine.Core.answer_all.Given as goal
 
 abbrev pub invariant-loop-call : goal.invariant-loop-call

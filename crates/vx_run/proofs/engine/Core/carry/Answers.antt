@@ -1,7 +1,7 @@
 use Rattle.std.proofs.Common.{◌≡◌, ◌⊎◌, Some, None, refl, sym, inl, append-nil, ap, ◌∙◌, subst, arith, rules}
 use Rattle.vx_base.specs.declared.event.Event.TheVariants as event
-use Rattle.vx_log.specs.Moments.{Told}
-use Rattle.vx_log.proofs.Passing.{passed_weaker}
+use Rattle.vx_dev.specs.Moments.{Told}
+use Rattle.vx_dev.proofs.Claims.{passed_weaker}
 use Rattle.vx_model.specs.Legal.{with_released}
 use Rattle.vx_model.specs.Replays.{ReplaysAs}
 use Rattle.vx_kernel.specs.Journals.{IsKept}

@@ -1,6 +1,6 @@
 use Rattle.std.proofs.Common.{◌≡◌, ℕ, arith, ◌++◌, ◌∷◌, [], Some, refl, sym, ◌∙◌, ap, subst}
 use Rattle.vx_base.specs.declared.event.Event.TheVariants as event
-use Rattle.vx_log.specs.Moments.{Told}
+use Rattle.vx_dev.specs.Moments.{Told}
 use Rattle.vx_model.specs.Legal.{with_released}
 use Rattle.vx_kernel.specs.Journals.{IsAtRest, IsKept}
 use Rattle.vx_run.specs.declared.engine.Core.{Core}

@@ -1,15 +1,13 @@
-use Rattle.std.proofs.Common.{◌≡◌, ◌+◌, ℕ, List, length, arith, ap, sym, subst, ◌∙◌}
+use Rattle.std.proofs.Common.{◌≡◌, ◌+◌, ℕ, List, length, arith, ap, sym, subst, ◌∙◌, Some, refl}
 use Rattle.std.specs.Prelude.{is_none, IfSome}
-use Rattle.std.proofs.Common.{Some, refl}
 use Rattle.vx_base.specs.declared.event.Event.{Event}
 use Rattle.vx_base.specs.declared.event.Event.TheVariants as event
-use Rattle.vx_log.specs.Moments.{Told, Always, Passed}
+use Rattle.vx_dev.specs.Moments.{Told, Always, Passed}
 use Rattle.vx_model.specs.Allowed.{IsAllowed}
 use Rattle.vx_model.specs.Legal.{after_all}
-use Rattle.vx_model.specs.Replays.{ReplaysAs}
+use Rattle.vx_model.specs.Replays.{ReplaysAs, IsLeft}
 use Rattle.vx_model.specs.State.{State}
 use Rattle.vx_run.specs.Cores.{beginning}
-use Rattle.vx_model.specs.Replays.{IsLeft}
 use Rattle.vx_run.proofs.Crashing.{told_stopped, told_failed, told_unmounted, state_unmounted, kept_live}
 use Rattle.vx_run.proofs.Ending.{none_of, some_of}
 use Rattle.vx_run.proofs.FaultOrder.{end_here, end_unmounted, end_unmounting}

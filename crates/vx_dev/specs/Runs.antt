@@ -1,9 +1,8 @@
 -- Several operations in a row, on a device that is lent.
-use Rattle.std.specs.Prelude.{◌≡◌, ◌⊎◌, ◌+◌, ◌<◌, ℕ, List, [], ◌∷◌, ◌++◌, length, take, get_or, option_map}
+use Rattle.std.specs.Prelude.{◌≡◌, ◌⊎◌, ◌+◌, ◌<◌, ◌≤◌, ℕ, List, [], ◌∷◌, ◌++◌, length, take, get_or, option_map}
 use Rattle.vx_dev.specs.declared.device.Operation.{Operation}
 use Rattle.vx_dev.specs.declared.device.Operation.TheVariants.{Put}
 use Rattle.vx_dev.specs.Tape.{Tape, State, tried}
-use Rattle.vx_layout.specs.LogForms.{log_at}
 
 -- the tape with these operations more
 abbrev pub did_all : List Operation → Tape → Tape
@@ -29,7 +28,9 @@ pub record BrokeOff (writes : List (ℕ × List ℕ)) (old new : State) : Type 0
   pub ran : Ran (take k (puts writes) ++ tried failed.0 failed.1 ∷ []) old new ⊎ Ran (take k (puts writes)) old new
   pub doubt : (new.doubt ≡ failed.0 ∷ old.doubt) ⊎ (new.doubt ≡ old.doubt)
 
--- sectors of the log of n sectors, as writes from a position on
-abbrev pub log_writes : ℕ → ℕ → List (List ℕ) → List (ℕ × List ℕ)
-log_writes n position [] = []
-log_writes n position (x ∷ xs) = (log_at n position, x) ∷ log_writes n (position + 1) xs
+-- operations may have been added; nothing else but the count of failed writes has changed
+pub record Onward (old new : State) : Type 0 where
+  pub size : new.size ≡ old.size
+  pub later : old.count ≤ new.count
+  pub reads : new.read_faults ≡ old.read_faults
+  pub faults : old.write_faults ≤ new.write_faults

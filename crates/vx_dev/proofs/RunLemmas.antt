@@ -1,20 +1,17 @@
 -- Runs of operations.
 use Rattle.std.proofs.Common.{◌≡◌, ◌+◌, ◌<◌, ℕ, zero, suc, List, [], ◌∷◌, ◌++◌, length, take, get_or, refl, sym, ◌∙◌, ap, subst, inl, inr, ⊎_elim, arith, append_assoc, length-append}
 use Rattle.std.specs.Prelude.{option_map, Option, Some, None}
+use Rattle.std.proofs.lemmas.Bool.{cases_eq}
 use Rattle.std.proofs.lemmas.List.{append-nil}
 use Rattle.vx_dev.specs.declared.device.Operation.{Operation}
 use Rattle.vx_dev.specs.declared.device.Operation.TheVariants.{Put}
-use Rattle.vx_dev.specs.Tape.{Tape, State, Did, DidNothing, Failed, did}
-use Rattle.vx_layout.specs.LogForms.{log_at}
-use Rattle.vx_log.specs.Runs.{did_all, Ran, puts, BrokeOff, log_writes}
+use Rattle.vx_dev.specs.Tape.{Tape, State, Did, DidNothing, Failed, did, Settles}
+use Rattle.vx_dev.specs.Runs.{did_all, Ran, puts, BrokeOff}
+use Rattle.vx_dev.proofs.Tapes.{settles_put, settles_put_other}
 
 pub length-puts : (writes : List (ℕ × List ℕ)) → length (puts writes) ≡ length writes
 length-puts [] = refl
 length-puts (w ∷ writes) = ap suc (length-puts writes)
-
-pub length-log_writes : (n position : ℕ) (xs : List (List ℕ)) → length (log_writes n position xs) ≡ length xs
-length-log_writes n position [] = refl
-length-log_writes n position (x ∷ xs) = ap suc (length-log_writes n (position + 1) xs)
 
 pub puts-push : (writes : List (ℕ × List ℕ)) (w : ℕ × List ℕ) → puts (writes ++ w ∷ []) ≡ puts writes ++ Put w.0 w.1 ∷ []
 puts-push [] w = refl
@@ -24,24 +21,6 @@ pub take-puts : (k : ℕ) (writes : List (ℕ × List ℕ)) → take k (puts wri
 take-puts zero writes = refl
 take-puts (suc k) [] = refl
 take-puts (suc k) (w ∷ writes) = ap (λ (l : List Operation). Put w.0 w.1 ∷ l) (take-puts k writes)
-
-pub take-log_writes : (k n position : ℕ) (xs : List (List ℕ)) → take k (log_writes n position xs) ≡ log_writes n position (take k xs)
-take-log_writes zero n position xs = refl
-take-log_writes (suc k) n position [] = refl
-take-log_writes (suc k) n position (x ∷ xs) = ap (λ (l : List (ℕ × List ℕ)). (log_at n position, x) ∷ l) (take-log_writes k n (position + 1) xs)
-
-pub get_or-log_writes : (k n position : ℕ) (xs : List (List ℕ)) (d : ℕ × List ℕ) → k < length xs → get_or (log_writes n position xs) k d ≡ (log_at n (position + k), get_or xs k [])
-get_or-log_writes k n position [] d lt = absurd (omega (arith, lt))
-get_or-log_writes zero n position (x ∷ xs) d lt = let place : position ≡ position + 0 = omega arith in ap (λ (p : ℕ). (log_at n p, x)) place
-get_or-log_writes (suc k) n position (x ∷ xs) d lt =
-    let place : position + 1 + k ≡ position + suc k = omega arith in
-    get_or-log_writes k n (position + 1) xs d (omega (arith, lt)) ∙ ap (λ (p : ℕ). (log_at n p, get_or xs k [])) place
-
-pub log_writes-push : (n position : ℕ) (xs : List (List ℕ)) (x : List ℕ) → log_writes n position (xs ++ x ∷ []) ≡ log_writes n position xs ++ (log_at n (position + length xs), x) ∷ []
-log_writes-push n position [] x = let place : position ≡ position + 0 = omega arith in ap (λ (p : ℕ). (log_at n p, x) ∷ []) place
-log_writes-push n position (y ∷ xs) x =
-    let place : position + 1 + length xs ≡ position + suc (length xs) = omega arith in
-    ap (λ (l : List (ℕ × List ℕ)). (log_at n position, y) ∷ l) (log_writes-push n (position + 1) xs x ∙ ap (λ (p : ℕ). log_writes n (position + 1) xs ++ (log_at n p, x) ∷ []) place)
 
 -- nothing done yet
 pub ran_none : (d : State) → Ran [] d d
@@ -82,3 +61,15 @@ broke_off writes k w old mid new within is ran certain failed size = record {
   where
     before : Ran (take k (puts writes)) old mid
     before = subst (λ (ops : List Operation). Ran ops old mid) (sym (take-puts k writes)) ran
+
+-- right contents written again leave what is right
+pub run_settles : (contents : ℕ → List ℕ) (writes : List (ℕ × List ℕ)) (s : ℕ) → ((k : ℕ) (d : ℕ × List ℕ) → k < length writes → (get_or writes k d).1 ≡ contents (get_or writes k d).0)
+    → (t : Tape) → Settles t s (contents s) → Settles (did_all (puts writes) t) s (contents s)
+run_settles contents [] s right t h = subst (λ (l : List Operation). Settles (record { start = t.start; ops = l }) s (contents s)) (sym (append-nil t.ops)) h
+run_settles contents (w ∷ writes) s right t h =
+    let one : Settles (did (Put w.0 w.1) t) s (contents s) = elim (cases_eq w.0 s) [
+      | inl same ↦ subst (λ (u : ℕ). Settles (did (Put w.0 w.1) t) u (contents u)) same (subst (λ (x : List ℕ). Settles (did (Put w.0 w.1) t) w.0 x) (right 0 w (omega arith)) (settles_put t w.0 w.1))
+      | inr other ↦ settles_put_other t w.0 s w.1 (contents s) (λ e. other (sym e)) h
+    ] in
+    subst (λ (l : List Operation). Settles (record { start = t.start; ops = l }) s (contents s)) (append_assoc t.ops (Put w.0 w.1 ∷ []) (puts writes))
+    (run_settles contents writes s (λ k d lt. right (suc k) d (omega (arith, lt))) (did (Put w.0 w.1) t) one)

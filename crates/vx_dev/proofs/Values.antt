@@ -5,12 +5,9 @@ use Rattle.vx_dev.specs.declared.device.Operation.{Operation}
 use Rattle.vx_dev.specs.declared.device.Operation.TheVariants.{Put}
 use Rattle.vx_dev.specs.Tape.{Tape, State, Writes, did, tried, MayHold}
 use Rattle.vx_dev.proofs.Tapes.{put_writes, tried_writes}
-use Rattle.vx_log.specs.Runs.{Ran, puts, BrokeOff}
-use Rattle.vx_log.specs.Moments.{Told, Past, Passed}
-use Rattle.vx_log.proofs.CommitRuns.{told_by, at_tape}
-use Rattle.vx_log.proofs.Passing.{Shows, passed_past, told_weaker}
-use Rattle.vx_log.proofs.StageRuns.{stage_keeps, broken_keeps}
-use Rattle.vx_log.proofs.Times.{past_did, past_start}
+use Rattle.vx_dev.specs.Runs.{Ran, puts, BrokeOff}
+use Rattle.vx_dev.specs.Moments.{Told, Shows, Past, Passed}
+use Rattle.vx_dev.proofs.Claims.{told_by, at_tape, passed_past, told_weaker, stage_keeps, broken_keeps, past_did, past_start}
 
 module _ (s : ℕ) (values : List (List ℕ)) where
   abbrev pub Keeps : Tape → Type 0

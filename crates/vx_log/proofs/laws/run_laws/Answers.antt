@@ -1,5 +1,0 @@
-use Rattle.vx_log.proofs.RunLemmas.{ran_none, ran_more, ran_nothing, broke_off, puts-push}
-use Rattle.vx_log.proofs.laws.run_laws.Goals as goal
-
-pub returns : goal.returns
-returns c = record { none = ran_none; more = ran_more; nothing = ran_nothing; broke = broke_off; push = puts-push }
