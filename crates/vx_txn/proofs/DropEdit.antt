@@ -3,7 +3,7 @@ use Rattle.std.proofs.Common.{◌≡◌, ◌≢◌, ℕ, ◌+◌, ◌-◌, ◌*�
 use Rattle.std.specs.Prelude.{◌==◌, is_none, is_some, IfSome}
 use Rattle.std.specs.FinMap as map
 use Rattle.std.proofs.lemmas.Bool.{cases_eq, eq-eqb, ne_eqb, and_left, and_right, and_from, or_left, or_from}
-use Rattle.vx_alloc.specs.FreeMaps.{FreeMapView, place_of, with_place, is_used as is_used_block, is_free as is_free_block, is_data as is_data_block}
+use Rattle.vx_alloc.specs.FreeMaps.{FreeMapView, place_of, with_place, is_used as is_used_block, is_free as is_free_block, is_in_set, is_data as is_data_block}
 use Rattle.vx_base.specs.declared.inode.Inode.{Inode}
 use Rattle.vx_dir.specs.Sizes.{Entries}
 use Rattle.vx_inode.proofs.Counts.{removed, kept}
@@ -24,7 +24,7 @@ use Rattle.vx_txn.specs.declared.meta.Meta.{Meta}
 use Rattle.vx_txn.proofs.Changes.{MetaChange, StateChange, ChangedAt, FreeAfter, edited, free_kept, next_gone, stands_of}
 use Rattle.vx_txn.proofs.Claims.{same_free, free_is, claimed}
 use Rattle.vx_txn.proofs.Data.{same_data}
-use Rattle.vx_txn.proofs.FreeLaws.{data_low, data_high, data_place, waits_here, waits_other}
+use Rattle.vx_txn.proofs.FreeLaws.{data_low, data_high, data_place, set_is_free, waits_here, waits_other}
 use Rattle.vx_txn.proofs.NameEdits.{with_here, with_other, same_among}
 use Rattle.vx_txn.proofs.StateLaws.{inode_of_option, blocks_here, shape, directory_here}
 
@@ -45,7 +45,7 @@ module _ (m : Meta) (s : State) (is : Stands m s) (at b : ℕ) (es : Entries) (t
 
   pub used_block : is_used_block m.free b ≡ true
   used_block =
-      let free : is_free_block m.free b ≡ false = is.is.free b ∙ not_free in
+      let free : is_in_set m.free b ≡ false = set_is_free m.free b is.is.bar is_data_here ∙ is.is.free b ∙ not_free in
       let waits : place_of m.free b ≡ None = is.is.pending b ∙ is.laid_out.not_pending at b has in
       and_from _ _ is_data_here (and_from _ _ (ap not free) (ap (λ (o : Option ℕ). not (is_some o)) waits))
 

@@ -4,7 +4,7 @@ use Rattle.std.specs.Prelude.{is_none, is_some, nat_le, nat_lt, ◌||◌}
 use Rattle.std.proofs.lemmas.Bool.{cases_Bool, cases_lt, cases_eq, and_left, and_right, and_parts, and_from, leb-true, ltb-true, lt-leb}
 use Rattle.std.proofs.lemmas.Bool.Decides.{nat_tests}
 use Rattle.std.proofs.lemmas.List.{get_or_past}
-use Rattle.vx_alloc.specs.FreeMaps.{FreeMapView, is_data, is_free, is_in_set, is_barred, place_of, with_bit, with_place, is_used}
+use Rattle.vx_alloc.specs.FreeMaps.{FreeMapView, is_data, is_free, is_in_set, is_barred, is_at_or_past, unit_of, place_of, with_bit, with_place, is_used}
 
 at_set : {X : Type 0} (xs : List X) (i : ℕ) (x d : X) → i < length xs → get_or (set xs i x) i d ≡ x
 at_set [] i x d h = absurd (omega arith)
@@ -49,6 +49,11 @@ module _ (v : FreeMapView) (b : ℕ) where
   free_bit : is_free v b ≡ true → is_in_set v b ≡ true
   free_bit is = (and_parts _ _ ((and_parts _ _ is).1)).1
 
+  -- where nothing is barred, a data block is free exactly where it is in the set
+  pub set_is_free : v.bar ≡ None → is_data v b ≡ true → is_in_set v b ≡ is_free v b
+  set_is_free none is =
+      sym (ap (λ (x : Bool). x && (not (is_barred v b) && is_in_set v b)) is ∙ ap (λ (o : Option ℕ). true && (not (is_at_or_past o (unit_of v b)) && is_in_set v b)) none)
+
   -- ---- taking and giving
 
   pub taken_here : is_free (with_bit v b false) b ≡ false
@@ -65,7 +70,7 @@ module _ (v : FreeMapView) (b : ℕ) where
 
   pub used_when_taken : is_free v b ≡ true → place_of v b ≡ None → is_used (with_bit v b false) b ≡ true
   used_when_taken is none =
-      and_from _ _ (free_data is) (and_from _ _ (ap not taken_here) (ap (λ (o : Option ℕ). not (is_some o)) none))
+      and_from _ _ (free_data is) (and_from _ _ (ap not (false_at v.free (b - v.first))) (ap (λ (o : Option ℕ). not (is_some o)) none))
 
   -- ---- waiting
 

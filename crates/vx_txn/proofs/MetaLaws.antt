@@ -36,7 +36,7 @@ use Rattle.vx_txn.specs.Values.{value_by}
 use Rattle.vx_txn.specs.declared.meta.Meta.{Meta}
 use Rattle.vx_txn.proofs.Claims.{unclaimed, none_below, free_is, same_claims, owner}
 use Rattle.vx_txn.proofs.Data.{same_data}
-use Rattle.vx_txn.proofs.FreeLaws.{data_high}
+use Rattle.vx_txn.proofs.FreeLaws.{data_high, set_is_free}
 use Rattle.vx_txn.proofs.StateLaws.{inode_of_node, inode_of_option, directory_here, file_here, blocks_here, shape}
 
 -- ---- which blocks are in use
@@ -63,8 +63,8 @@ module _ (m : Meta) (s : State) (is : Stands m s) (b : ℕ) where
   claimed_is within_data =
       let u : Bool = unclaimed s.layout b (128 * s.layout.units) in
       let p : Option ℕ = s.layout.pending b in
-      ap (λ (x : Bool). x && (not (is_free_block m.free b) && not (is_some (place_of m.free b)))) (data_is ∙ within_data)
-      ∙ ap (λ (x : Bool). true && (not x && not (is_some (place_of m.free b)))) (is.is.free b ∙ free_is s.layout b ∙ ap (λ (x : Bool). x && (u && is_none p)) within_data)
+      ap (λ (x : Bool). x && (not (is_in_set m.free b) && not (is_some (place_of m.free b)))) (data_is ∙ within_data)
+      ∙ ap (λ (x : Bool). true && (not x && not (is_some (place_of m.free b)))) (set_is_free m.free b is.is.bar (data_is ∙ within_data) ∙ is.is.free b ∙ free_is s.layout b ∙ ap (λ (x : Bool). x && (u && is_none p)) within_data)
       ∙ ap (λ (o : Option ℕ). true && (not (true && (u && is_none p)) && not (is_some o))) (is.is.pending b)
       ∙ used_by u p waits_not
       ∙ sym (some_not_none (claim_of s.layout b) ∙ ap not (none_below s.layout b (128 * s.layout.units)))
