@@ -199,11 +199,27 @@ fn example(rt: HostRuntime) -> Result<(), Fail> {
     Ok(())
 }
 
+const DIRECTORIES: &[u8] =
+    b"sessions 1\n0 mkdir /d 755\n0 mkdir /d/e 755\n0 rename /d /d/e/f\n0 rmdir /\n0 rmdir /d\n0 unlink /d\n0 stat /d/x\n0 chmod /d 700\n0 link /d /g\n0 stat /d\n";
+
+const DIRECTORIES_DONE: &[u8] =
+    b"0 1 ok 3\n0 2 ok 4\n0 3 no 13 IntoItself\n0 4 no 14 RootFixed\n0 5 no 5 NotEmpty\n0 6 no 4 IsDir\n0 7 no 1 NoEnt\n0 8 ok\n0 9 no 4 IsDir\n0 10 ok dir 3 0700 1\ndone calls=10 moves=0 from=0 to=0\n";
+
+/// A file of two names is replaced by a rename.
+const REPLACED: &[u8] =
+    b"sessions 1\n0 mkdir /d 755\n0 create /a 644\n0 link /a /d/b\n0 create /c 600\n0 rename /c /d/b\n0 stat /a\n0 stat /d/b\n0 list /\n0 list /d\n0 create nowhere 644\n";
+
+const REPLACED_DONE: &[u8] =
+    b"0 1 ok 3\n0 2 ok 4\n0 3 ok\n0 4 ok 5\n0 5 ok\n0 6 ok file 4 0644 1 0\n0 7 ok file 5 0600 1 0\n0 8 ok 2 a d\n0 9 ok 1 b\n0 10 no 6 BadName\ndone calls=10 moves=0 from=0 to=0\n";
+
 #[test]
-fn no_lines(rt: HostRuntime) -> Result<(), Fail> {
-    let seen = run_script(&rt, rt.alloc(), b"sessions 1\n", SECTORS, &[])?;
-    assert_eq!(rt; (seen.status, seen.dev.ops()), (0, 72));
-    assert_eq!(rt; sector(seen.dev.image(), 0)[28], 1);
+fn answers(rt: HostRuntime) -> Result<(), Fail> {
+    let rows = [(DIRECTORIES, DIRECTORIES_DONE), (REPLACED, REPLACED_DONE)];
+    for (script, out) in rows {
+        let seen = run_script(&rt, rt.alloc(), script, SECTORS, &[])?;
+        assert_eq!(rt; seen.status, 0);
+        assert_eq!(rt; seen.out.as_slice(), out);
+    }
     Ok(())
 }
 
@@ -216,82 +232,12 @@ fn long_line(line: &mut Vec<u8>, letter: u8) -> Result<(), AllocError> {
     line.extend_from_slice(b" 644\n")
 }
 
-#[test]
-fn a_fourth_long_name_has_no_room(rt: HostRuntime) -> Result<(), Fail> {
-    let alloc = rt.alloc();
-    let mut script = Vec::new(alloc);
-    script.extend_from_slice(b"sessions 1\n")?;
-    for letter in *b"wxyz" {
-        long_line(&mut script, letter)?;
-    }
-    let seen = run_script(&rt, alloc, &script, SECTORS, &[])?;
-    assert_eq!(rt; seen.status, 0);
-    assert_eq!(rt;
-        seen.out.as_slice(),
-        b"0 1 ok 3\n0 2 ok 4\n0 3 ok 5\n0 4 no 10 TooBig 2048\ndone calls=4 moves=0 from=0 to=0\n".as_slice()
-    );
-    Ok(())
-}
-
-#[test]
-fn directories(rt: HostRuntime) -> Result<(), Fail> {
-    let seen = run_script(
-        &rt,
-        rt.alloc(),
-        b"sessions 1\n0 mkdir /d 755\n0 mkdir /d/e 755\n0 rename /d /d/e/f\n0 rmdir /\n0 rmdir /d\n0 unlink /d\n0 stat /d/x\n0 chmod /d 700\n0 link /d /g\n0 stat /d\n",
-        SECTORS,
-        &[],
-    )?;
-    assert_eq!(rt; seen.status, 0);
-    assert_eq!(rt;
-        seen.out.as_slice(),
-        b"0 1 ok 3\n0 2 ok 4\n0 3 no 13 IntoItself\n0 4 no 14 RootFixed\n0 5 no 5 NotEmpty\n0 6 no 4 IsDir\n0 7 no 1 NoEnt\n0 8 ok\n0 9 no 4 IsDir\n0 10 ok dir 3 0700 1\ndone calls=10 moves=0 from=0 to=0\n".as_slice()
-    );
-    Ok(())
-}
-
-#[test]
-fn a_file_is_replaced(rt: HostRuntime) -> Result<(), Fail> {
-    let seen = run_script(
-        &rt,
-        rt.alloc(),
-        b"sessions 1\n0 mkdir /d 755\n0 create /a 644\n0 link /a /d/b\n0 create /c 600\n0 rename /c /d/b\n0 stat /a\n0 stat /d/b\n0 list /\n0 list /d\n0 create nowhere 644\n",
-        SECTORS,
-        &[],
-    )?;
-    assert_eq!(rt; seen.status, 0);
-    assert_eq!(rt;
-        seen.out.as_slice(),
-        b"0 1 ok 3\n0 2 ok 4\n0 3 ok\n0 4 ok 5\n0 5 ok\n0 6 ok file 4 0644 1 0\n0 7 ok file 5 0600 1 0\n0 8 ok 2 a d\n0 9 ok 1 b\n0 10 no 6 BadName\ndone calls=10 moves=0 from=0 to=0\n".as_slice()
-    );
-    Ok(())
-}
-
 /// A create of a name of three bytes.
 fn numbered_line(line: &mut Vec<u8>, number: u8) -> Result<(), AllocError> {
     line.extend_from_slice(b"0 create /n")?;
     line.push(b'a' + number / 16)?;
     line.push(b'a' + number % 16)?;
     line.extend_from_slice(b" 644\n")
-}
-
-#[test]
-fn inodes_run_out(rt: HostRuntime) -> Result<(), Fail> {
-    let alloc = rt.alloc();
-    let mut script = Vec::new(alloc);
-    script.extend_from_slice(b"sessions 1\n")?;
-    for number in 0..126u8 {
-        numbered_line(&mut script, number)?;
-    }
-    let seen = run_script(&rt, alloc, &script, SECTORS, &[])?;
-    assert_eq!(rt; seen.status, 0);
-    assert!(rt; seen.out.as_slice().starts_with(b"0 1 ok 3\n0 2 ok 4\n"));
-    assert!(rt;
-        seen.out.as_slice().ends_with(
-            b"0 125 ok 127\n0 126 no 9 NoInodes 126\ndone calls=126 moves=0 from=0 to=0\n"
-        )
-    );
-    Ok(())
 }
 
 /// A script of the same lines, so many times.
@@ -312,92 +258,100 @@ fn releases(history: &History) -> bool {
         .any(|event| matches!(event, Event::Release { .. }))
 }
 
-#[test]
-fn the_log_fills_and_wraps(rt: HostRuntime) -> Result<(), Fail> {
-    let alloc = rt.alloc();
-    let script = repeated(alloc, b"0 create /a 644\n0 unlink /a\n", 300)?;
-    let seen = run_script(&rt, alloc, &script, SECTORS, &[])?;
-    assert_eq!(rt; seen.status, 0);
-    assert!(rt; releases(&seen.history));
-    assert!(rt;
-        seen.out.as_slice().ends_with(b"0 599 ok 3\n0 600 ok\ndone calls=600 moves=0 from=0 to=0\n")
-    );
-    assert_eq!(rt; sector(seen.dev.image(), 0)[28], 1);
-    let head = sector(seen.dev.image(), 2);
-    assert_eq!(rt; number(&head, 16, 8), number(&head, 24, 8));
-    Ok(())
-}
-
-#[test]
-fn blocks_are_freed_and_used_again(rt: HostRuntime) -> Result<(), Fail> {
-    let alloc = rt.alloc();
-    let script = repeated(
+/// Scripts that fill a directory, the inodes and the log, and one whose blocks are used again; with the end of their answers, and
+/// whether blocks that wait are released.
+fn long_scripts(alloc: Global) -> Result<[(Vec<u8>, &'static [u8], bool); 4], AllocError> {
+    let mut names = Vec::new(alloc);
+    names.extend_from_slice(b"sessions 1\n")?;
+    for letter in *b"wxyz" {
+        long_line(&mut names, letter)?;
+    }
+    let mut inodes = Vec::new(alloc);
+    inodes.extend_from_slice(b"sessions 1\n")?;
+    for number in 0..126u8 {
+        numbered_line(&mut inodes, number)?;
+    }
+    let log = repeated(alloc, b"0 create /a 644\n0 unlink /a\n", 300)?;
+    let blocks = repeated(
         alloc,
         b"0 mkdir /d 755\n0 create /d/x 644\n0 unlink /d/x\n0 rmdir /d\n",
         120,
     )?;
-    let seen = run_script(&rt, alloc, &script, SECTORS, &[])?;
-    assert_eq!(rt; seen.status, 0);
-    assert!(rt; releases(&seen.history));
-    assert!(rt;
-        seen.out.as_slice().ends_with(
-            b"0 477 ok 3\n0 478 ok 4\n0 479 ok\n0 480 ok\ndone calls=480 moves=0 from=0 to=0\n"
-        )
-    );
-    Ok(())
+    Ok([
+        (
+            names,
+            b"0 3 ok 5\n0 4 no 10 TooBig 2048\ndone calls=4 moves=0 from=0 to=0\n".as_slice(),
+            false,
+        ),
+        (
+            inodes,
+            b"0 125 ok 127\n0 126 no 9 NoInodes 126\ndone calls=126 moves=0 from=0 to=0\n".as_slice(),
+            false,
+        ),
+        (
+            log,
+            b"0 599 ok 3\n0 600 ok\ndone calls=600 moves=0 from=0 to=0\n".as_slice(),
+            true,
+        ),
+        (
+            blocks,
+            b"0 477 ok 3\n0 478 ok 4\n0 479 ok\n0 480 ok\ndone calls=480 moves=0 from=0 to=0\n".as_slice(),
+            true,
+        ),
+    ])
 }
 
 #[test]
-fn a_device_one_sector_short(rt: HostRuntime) -> Result<(), Fail> {
-    let seen = run_script(&rt, rt.alloc(), EXAMPLE, SECTORS - 1, &[])?;
-    assert_eq!(rt; (seen.status, seen.dev.ops()), (2, 0));
-    assert_eq!(rt;
-        seen.out.as_slice(),
-        b"refused 2 DeviceTooSmall 9219 9220\n".as_slice()
-    );
+fn long_scripts_end_so(rt: HostRuntime) -> Result<(), Fail> {
+    for (lines, out, released) in long_scripts(rt.alloc())? {
+        let seen = run_script(&rt, rt.alloc(), &lines, SECTORS, &[])?;
+        assert_eq!(rt; seen.status, 0);
+        assert!(rt; seen.out.as_slice().ends_with(out));
+        assert_eq!(rt; releases(&seen.history), released);
+        let head = sector(seen.dev.image(), 2);
+        assert_eq!(rt; number(&head, 16, 8), number(&head, 24, 8));
+    }
     Ok(())
 }
 
-// ---- faults
+// ---- ends
+
+const NO_LINES: &[u8] = b"sessions 1\n";
+
+const NOTHING_DONE: &[u8] = b"done calls=0 moves=0 from=0 to=0\n";
+
+const TOO_SMALL: &[u8] = b"refused 2 DeviceTooSmall 9219 9220\n";
+
+const UNREAD: &[u8] = b"refused 7 ScriptFault\n";
 
 const DISABLED: &[u8] =
     b"0 1 no 20 WriteFault\n0 2 no 21 Disabled 1\ndisabled calls=2 moves=0 from=0 to=0\n";
 
-#[test]
-fn a_failed_write_disables(rt: HostRuntime) -> Result<(), Fail> {
-    let seen = run_script(&rt, rt.alloc(), ONE_CREATE, SECTORS, &[77])?;
-    assert_eq!(rt; (seen.status, seen.dev.ops()), (4, 77));
-    assert_eq!(rt; seen.out.as_slice(), DISABLED);
-    Ok(())
-}
+const CUT_OFF: &[u8] = b"0 1 ";
+
+/// A number of no operation and no read.
+const NEVER: u64 = 1_000_000;
 
 #[test]
-fn a_fuse_disables(rt: HostRuntime) -> Result<(), Fail> {
+fn ends(rt: HostRuntime) -> Result<(), Fail> {
     let alloc = rt.alloc();
+    let rows = [
+        (NO_LINES, SECTORS, NEVER, NEVER, 4096, 0, 72, NOTHING_DONE),
+        (ONE_CREATE, SECTORS - 1, NEVER, NEVER, 4096, 2, 0, TOO_SMALL),
+        (ONE_CREATE, SECTORS, NEVER, 2, 4096, 7, 0, UNREAD),
+        (ONE_CREATE, SECTORS, 77, NEVER, 4096, 4, 77, DISABLED),
+        (ONE_CREATE, SECTORS, NEVER, NEVER, 4, 5, 87, CUT_OFF),
+    ];
+    for (script, sectors, failing_write, failing_read, room, status, ops, out) in rows {
+        let dev = disk(alloc, sectors, &[failing_write])?;
+        let seen = run_on(&rt, alloc, script, &[failing_read], room, dev)?;
+        assert_eq!(rt; (seen.status, seen.dev.ops()), (status, ops));
+        assert_eq!(rt; seen.out.as_slice(), out);
+    }
     let dev = FuseDev::new(disk(alloc, SECTORS, &[])?, 77);
     let seen = run_on(&rt, alloc, ONE_CREATE, &[], 4096, dev)?;
     assert_eq!(rt; (seen.status, seen.dev.ops()), (4, 77));
     assert_eq!(rt; seen.out.as_slice(), DISABLED);
-    Ok(())
-}
-
-#[test]
-fn a_script_that_cannot_be_read(rt: HostRuntime) -> Result<(), Fail> {
-    let alloc = rt.alloc();
-    let dev = disk(alloc, SECTORS, &[])?;
-    let seen = run_on(&rt, alloc, EXAMPLE, &[2], 4096, dev)?;
-    assert_eq!(rt; (seen.status, seen.dev.ops()), (7, 0));
-    assert_eq!(rt; seen.out.as_slice(), b"refused 7 ScriptFault\n".as_slice());
-    Ok(())
-}
-
-#[test]
-fn a_sink_that_is_full(rt: HostRuntime) -> Result<(), Fail> {
-    let alloc = rt.alloc();
-    let dev = disk(alloc, SECTORS, &[])?;
-    let seen = run_on(&rt, alloc, EXAMPLE, &[], 4, dev)?;
-    assert_eq!(rt; seen.status, 5);
-    assert_eq!(rt; seen.out.as_slice(), b"0 1 ".as_slice());
     Ok(())
 }
 

@@ -19,8 +19,3 @@ pub use directory::Directory;
 pub use meta::Meta;
 pub use sectors::stage;
 pub use touched::Touched;
-
-#[cfg(test)]
-mod name_tests;
-#[cfg(test)]
-mod tests;
