@@ -10,12 +10,13 @@ use Rattle.std.proofs.lemmas.List.Elements.{All-append, All-from_recursion, All-
 use Rattle.std.proofs.lemmas.List.Sums.{length-filter, count_by-le-length}
 use Rattle.vx_base.specs.declared.event.Event.{Event}
 use Rattle.vx_base.specs.declared.event.Event.TheVariants as event
+use Rattle.vx_base.specs.declared.mode.Logging.{Logging}
 use Rattle.vx_base.specs.declared.reply.Reply.{Reply}
 use Rattle.vx_model.specs.Legal.{World, at_of, after_all}
 use Rattle.vx_model.specs.State.{State}
 use Rattle.vx_model.specs.Shapes.{shape}
 use Rattle.vx_model.specs.Replays.{ReplaysAs}
-use Rattle.vx_model.specs.Allowed.{come_by, call_of, call_at, is_durable, is_refusal, HoldsDurable, IsAllowed}
+use Rattle.vx_model.specs.Allowed.{come_by, call_of, call_at, has_front, is_refusal, HoldsFront, IsAllowed}
 use Rattle.vx_model.specs.AllowedLaws.{IsPlaced, IsQuiet}
 use Rattle.vx_model.proofs.GivenUp.{step_waits}
 use Rattle.vx_model.proofs.Histories.{kept_all}
@@ -71,11 +72,11 @@ unmounted_before (e ∷ history) events m at (suc place) quiet is early = omega 
 answer_placed : (history : List Event) (at place : ℕ) (answer : Reply) → All (IsPlaced (length history)) history → Contains history (event.Ret at place answer) → place < length history
 answer_placed history at place answer placed there = All-contains (IsPlaced (length history)) history (event.Ret at place answer) placed there
 
-durable_later : (history events : List Event) (m k : ℕ) → All (IsPlaced (length history)) history → AllByRecursion (IsQuiet m) events → HoldsDurable history m k → HoldsDurable (history ++ events) m k
-durable_later history events m k placed quiet before = record {
+durable_later : (mode : Logging) (history events : List Event) (m k : ℕ) → All (IsPlaced (length history)) history → AllByRecursion (IsQuiet m) events → HoldsFront mode history m k → HoldsFront mode (history ++ events) m k
+durable_later mode history events m k placed quiet before = record {
   returned = λ at place answer there early told.
       let old = answered_before history events m at place answer quiet there early told in
-      subst (λ (o : Option Event). IfSome (option_and_then call_of o) (λ c. is_durable c ≡ true → place < k)) (sym (slice_get-front history events place (answer_placed history at place answer placed old)))
+      subst (λ (o : Option Event). IfSome (option_and_then call_of o) (λ c. has_front mode c ≡ true → place < k)) (sym (slice_get-front history events place (answer_placed history at place answer placed old)))
       (before.returned at place answer old early told);
   unmounted = λ at place is early.
       before.unmounted at place (sym (slice_get-front history events place (unmounted_before history events m at place quiet is early)) ∙ is) early;
@@ -85,23 +86,23 @@ of_any : {A : Type 0} (o : Option A) (P : A → Type 0) → ((x : A) → P x) �
 of_any None P h = tt
 of_any (Some x) P h = h x
 
-durable_front : (history events : List Event) (m : ℕ) → All (IsPlaced (length history)) history → AllByRecursion (IsQuiet m) events → HoldsDurable (history ++ events) m (length history)
-durable_front history events m placed quiet = record {
+durable_front : (mode : Logging) (history events : List Event) (m : ℕ) → All (IsPlaced (length history)) history → AllByRecursion (IsQuiet m) events → HoldsFront mode (history ++ events) m (length history)
+durable_front mode history events m placed quiet = record {
   returned = λ at place answer there early told.
       let old = answered_before history events m at place answer quiet there early told in
-      of_any (call_at (history ++ events) place) (λ c. is_durable c ≡ true → place < length history) (λ c durable. answer_placed history at place answer placed old);
+      of_any (call_at (history ++ events) place) (λ c. has_front mode c ≡ true → place < length history) (λ c durable. answer_placed history at place answer placed old);
   unmounted = λ at place is early. unmounted_before history events m at place quiet is early;
 }
 
 -- ---- what is allowed
 
-pub later : (opening : World) (history events : List Event) (m : ℕ) (image : ℕ → List ℕ) → All (IsPlaced (length history)) history → AllByRecursion (IsQuiet m) events
-    → IsAllowed opening history m image → IsAllowed opening (history ++ events) m image
-later opening history events m image placed quiet is = record {
+pub later : (mode : Logging) (opening : World) (history events : List Event) (m : ℕ) (image : ℕ → List ℕ) → All (IsPlaced (length history)) history → AllByRecursion (IsQuiet m) events
+    → IsAllowed mode opening history m image → IsAllowed mode opening (history ++ events) m image
+later mode opening history events m image placed quiet is = record {
   tree = is.tree;
   replays = is.replays;
   events = is.events;
-  durable = durable_later history events m is.events placed quiet is.durable;
+  durable = durable_later mode history events m is.events placed quiet is.durable;
   come = omega (arith, is.come, come-append history events m);
   shape_is = λ n. is.shape_is n
       ∙ ap (λ (es : List Event). shape (after_all opening es).state.tree n) (sym (take-append-le is.events history events (omega (arith, is.come, come_within history m))));
@@ -112,13 +113,13 @@ device opening history =
     kept_all (λ (s : State). s.layout.device_sectors ≡ opening.state.layout.device_sectors)
     (λ s place session c done is stepped. (step_waits s place session c done stepped).same_device ∙ is) (λ s upto is. is) opening history refl
 
-pub front : (opening : World) (history events : List Event) (m : ℕ) (image : ℕ → List ℕ) (s : State) → All (IsPlaced (length history)) history → AllByRecursion (IsQuiet m) events
-    → length history ≤ come_by history m → (after_all opening history).state ≡ s → ReplaysAs s.layout.device_sectors image s.tree → IsAllowed opening (history ++ events) m image
-front opening history events m image s placed quiet came same replays = record {
+pub front : (mode : Logging) (opening : World) (history events : List Event) (m : ℕ) (image : ℕ → List ℕ) (s : State) → All (IsPlaced (length history)) history → AllByRecursion (IsQuiet m) events
+    → length history ≤ come_by history m → (after_all opening history).state ≡ s → ReplaysAs s.layout.device_sectors image s.tree → IsAllowed mode opening (history ++ events) m image
+front mode opening history events m image s placed quiet came same replays = record {
   tree = s.tree;
   replays = subst (λ (n : ℕ). ReplaysAs n image s.tree) (ap (λ (x : State). x.layout.device_sectors) (sym same) ∙ device opening history) replays;
   events = length history;
-  durable = durable_front history events m placed quiet;
+  durable = durable_front mode history events m placed quiet;
   come = omega (arith, came, come-append history events m);
   shape_is = λ n. ap (λ (x : State). shape x.tree n) (sym same) ∙ ap (λ (es : List Event). shape (after_all opening es).state.tree n) (sym (take-append_seam history events));
 }

@@ -3,6 +3,7 @@ use Rattle.std.specs.Prelude.{◌≡◌, ◌⊎◌, ℕ, ◌+◌, ◌<◌, ◌�
 use Rattle.std.specs.List.{AllByRecursion}
 use Rattle.vx_base.specs.declared.event.Event.{Event}
 use Rattle.vx_base.specs.declared.event.Event.TheVariants as event
+use Rattle.vx_base.specs.declared.mode.Logging.{Logging}
 use Rattle.vx_model.specs.Legal.{World, at_of, after_all}
 use Rattle.vx_model.specs.State.{State}
 use Rattle.vx_model.specs.Replays.{ReplaysAs}
@@ -21,11 +22,11 @@ IsQuiet m _ = Unit {0}
 
 pub record AllowedLaws : Type 0 where
   -- what is allowed stays so by events that are quiet then
-  pub later : (opening : World) (history events : List Event) (m : ℕ) (image : ℕ → List ℕ) → All (IsPlaced (length history)) history → AllByRecursion (IsQuiet m) events
-      → IsAllowed opening history m image → IsAllowed opening (history ++ events) m image
+  pub later : (mode : Logging) (opening : World) (history events : List Event) (m : ℕ) (image : ℕ → List ℕ) → All (IsPlaced (length history)) history → AllByRecursion (IsQuiet m) events
+      → IsAllowed mode opening history m image → IsAllowed mode opening (history ++ events) m image
   -- an image of the tree after a first part of the history is allowed, where all of that part has come and the rest is quiet
-  pub front : (opening : World) (history events : List Event) (m : ℕ) (image : ℕ → List ℕ) (s : State) → All (IsPlaced (length history)) history → AllByRecursion (IsQuiet m) events
-      → length history ≤ come_by history m → (after_all opening history).state ≡ s → ReplaysAs s.layout.device_sectors image s.tree → IsAllowed opening (history ++ events) m image
+  pub front : (mode : Logging) (opening : World) (history events : List Event) (m : ℕ) (image : ℕ → List ℕ) (s : State) → All (IsPlaced (length history)) history → AllByRecursion (IsQuiet m) events
+      → length history ≤ come_by history m → (after_all opening history).state ≡ s → ReplaysAs s.layout.device_sectors image s.tree → IsAllowed mode opening (history ++ events) m image
   -- the device stays the same
   pub device : (opening : World) (history : List Event) → (after_all opening history).state.layout.device_sectors ≡ opening.state.layout.device_sectors
   -- events at m or earlier have all come by then

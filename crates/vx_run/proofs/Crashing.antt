@@ -14,6 +14,7 @@ use Rattle.vx_layout.specs.LogForms.{AfterImage}
 use Rattle.vx_log.specs.Logs.{LogView}
 use Rattle.vx_dev.specs.Moments.{Past, Always}
 use Rattle.vx_dev.specs.Runs.{did_all}
+use Rattle.vx_base.specs.declared.mode.Logging.TheVariants as logging
 use Rattle.vx_model.specs.Allowed.{come_by, is_refusal, IsAllowed}
 use Rattle.vx_model.specs.AllowedLaws.{IsPlaced, IsQuiet, AllowedLaws}
 use Rattle.vx_model.specs.Legal.{World, after_all, at_of}
@@ -54,21 +55,21 @@ kept_live opened h s (Some t) disabled log homes none live = live.kept none
 
 -- ---- from one history to a longer one
 
-module _ (opened : Opened) (start end : ℕ) (h longer : List Event) (early : (m : ℕ) (image : ℕ → List ℕ) → m < start → IsAllowed (beginning opened) h m image → IsAllowed (beginning opened) longer m image) where
-  past_on : (Q : (ℕ → List ℕ) → Type 0) → ((m : ℕ) (image : ℕ → List ℕ) → start ≤ m → m < end → Q image → IsAllowed (beginning opened) longer m image)
-      → (t : Tape) (ops : List Operation) → length t.ops ≡ start → length (did_all ops t).ops ≡ end → Past (opened.operations + 70) (IsAllowed (beginning opened) h) t
-      → Always (length t.ops) (λ _ image. Q image) (did_all ops t) → Past (opened.operations + 70) (IsAllowed (beginning opened) longer) (did_all ops t)
+module _ (opened : Opened) (start end : ℕ) (h longer : List Event) (early : (m : ℕ) (image : ℕ → List ℕ) → m < start → IsAllowed logging.Log (beginning opened) h m image → IsAllowed logging.Log (beginning opened) longer m image) where
+  past_on : (Q : (ℕ → List ℕ) → Type 0) → ((m : ℕ) (image : ℕ → List ℕ) → start ≤ m → m < end → Q image → IsAllowed logging.Log (beginning opened) longer m image)
+      → (t : Tape) (ops : List Operation) → length t.ops ≡ start → length (did_all ops t).ops ≡ end → Past (opened.operations + 70) (IsAllowed logging.Log (beginning opened) h) t
+      → Always (length t.ops) (λ _ image. Q image) (did_all ops t) → Past (opened.operations + 70) (IsAllowed logging.Log (beginning opened) longer) (did_all ops t)
   past_on Q way t ops begins ends past always m from lt image is = elim (cases_lt m (length t.ops)) [
     | inl soon ↦ early m image (omega (arith, soon, begins)) (past m from soon image (subst (λ (u : Tape). IsImage u image) (upto-front m ops t (omega (arith, soon))) is))
     | inr on ↦ way m image (omega (arith, begins, on)) (omega (arith, lt, ends)) (always m on (omega (arith, lt)) image is)
   ]
 
   -- operations were done, and each image on the way is so
-  pub live_on : (Q : (ℕ → List ℕ) → Type 0) → ((m : ℕ) (image : ℕ → List ℕ) → start ≤ m → m < end → Q image → IsAllowed (beginning opened) longer m image)
+  pub live_on : (Q : (ℕ → List ℕ) → Type 0) → ((m : ℕ) (image : ℕ → List ℕ) → start ≤ m → m < end → Q image → IsAllowed logging.Log (beginning opened) longer m image)
       → (s s2 : State) (o o2 : Option Tape) (ops : List Operation) (disabled was : Option ℕ) (log log2 : LogView) (homes homes2 : List AfterImage)
       → IfSome o (λ t. length t.ops ≡ start) → IfSome o2 (λ t. length t.ops ≡ end) → IfSome o (IsLive opened h was log homes s) → o2 ≡ option_map (did_all ops) o
       → IfSome o (λ t. Always (length t.ops) (λ _ image. Q image) (did_all ops t))
-      → (disabled ≡ None → IfSome o2 (IsKept log2 homes2 s2)) → (IsSome disabled → (image : ℕ → List ℕ) → Q image → start ≤ end → IsAllowed (beginning opened) longer end image)
+      → (disabled ≡ None → IfSome o2 (IsKept log2 homes2 s2)) → (IsSome disabled → (image : ℕ → List ℕ) → Q image → start ≤ end → IsAllowed logging.Log (beginning opened) longer end image)
       → IfSome o2 (IsLive opened longer disabled log2 homes2 s2)
   live_on Q way s s2 None o2 ops disabled was log log2 homes homes2 begins ends live told always kept stop = subst (λ (x : Option Tape). IfSome x (IsLive opened longer disabled log2 homes2 s2)) (sym told) tt
   live_on Q way s s2 (Some t) o2 ops disabled was log log2 homes homes2 begins ends live told always kept stop =
@@ -77,35 +78,35 @@ module _ (opened : Opened) (start end : ℕ) (h longer : List Event) (early : (m
       subst (λ (x : Option Tape). IfSome x (IsLive opened longer disabled log2 homes2 s2)) (sym told) (record {
         past = past_on Q way t ops begins done live.past always;
         kept = λ none. subst (λ (x : Option Tape). IfSome x (IsKept log2 homes2 s2)) told (kept none);
-        stopped = λ some image is. subst (λ (k : ℕ). IsAllowed (beginning opened) longer k image) (sym done)
+        stopped = λ some image is. subst (λ (k : ℕ). IsAllowed logging.Log (beginning opened) longer k image) (sym done)
             (stop some image (always (length (did_all ops t).ops) (omega (arith, long)) (omega arith) image (subst (λ (u : Tape). IsImage u image) (sym (upto-all (did_all ops t))) is)) (omega (arith, long, done, begins)));
       })
 
   -- nothing was done on the device
   pub live_still : (s s2 : State) (o : Option Tape) (disabled : Option ℕ) (log : LogView) (homes : List AfterImage) → IfSome o (λ t. length t.ops ≡ start)
       → (disabled ≡ None → (t : Tape) → IsKept log homes s t → IsKept log homes s2 t)
-      → (IsSome disabled → (image : ℕ → List ℕ) → IsAllowed (beginning opened) h start image → IsAllowed (beginning opened) longer start image)
+      → (IsSome disabled → (image : ℕ → List ℕ) → IsAllowed logging.Log (beginning opened) h start image → IsAllowed logging.Log (beginning opened) longer start image)
       → IfSome o (IsLive opened h disabled log homes s) → IfSome o (IsLive opened longer disabled log homes s2)
   live_still s s2 None disabled log homes begins kept stop live = tt
   live_still s s2 (Some t) disabled log homes begins kept stop live = record {
     past = λ m from lt image is. early m image (omega (arith, lt, begins)) (live.past m from lt image is);
     kept = λ none. kept none t (live.kept none);
-    stopped = λ some image is. subst (λ (k : ℕ). IsAllowed (beginning opened) longer k image) (sym begins)
-        (stop some image (subst (λ (k : ℕ). IsAllowed (beginning opened) h k image) begins (live.stopped some image is)));
+    stopped = λ some image is. subst (λ (k : ℕ). IsAllowed logging.Log (beginning opened) longer k image) (sym begins)
+        (stop some image (subst (λ (k : ℕ). IsAllowed logging.Log (beginning opened) h k image) begins (live.stopped some image is)));
   }
 
 -- ---- events behind a history
 
 -- what a crash may leave stays allowed, where no event behind the history has answered by then
 pub stays : (laws : AllowedLaws) (opened : Opened) (h events longer : List Event) (m : ℕ) (image : ℕ → List ℕ) → All (IsPlaced (length h)) h → h ++ events ≡ longer → AllByRecursion (IsQuiet m) events
-    → IsAllowed (beginning opened) h m image → IsAllowed (beginning opened) longer m image
-stays laws opened h events longer m image placed whole quiet is = subst (λ (es : List Event). IsAllowed (beginning opened) es m image) whole (laws.later (beginning opened) h events m image placed quiet is)
+    → IsAllowed logging.Log (beginning opened) h m image → IsAllowed logging.Log (beginning opened) longer m image
+stays laws opened h events longer m image placed whole quiet is = subst (λ (es : List Event). IsAllowed logging.Log (beginning opened) es m image) whole (laws.later logging.Log (beginning opened) h events m image placed quiet is)
 
 -- an image replays as the tree after the history
 pub replays : (laws : AllowedLaws) (opened : Opened) (h events longer : List Event) (s : State) (m : ℕ) (image : ℕ → List ℕ) → All (IsPlaced (length h)) h → h ++ events ≡ longer → AllByRecursion (IsQuiet m) events
-    → come_by h m ≡ length h → (after_all (beginning opened) h).state ≡ s → ReplaysAs s.layout.device_sectors image s.tree → IsAllowed (beginning opened) longer m image
-replays laws opened h events longer s m image placed whole quiet came same is = subst (λ (es : List Event). IsAllowed (beginning opened) es m image) whole
-    (laws.front (beginning opened) h events m image s placed quiet (omega (arith, came)) same is)
+    → come_by h m ≡ length h → (after_all (beginning opened) h).state ≡ s → ReplaysAs s.layout.device_sectors image s.tree → IsAllowed logging.Log (beginning opened) longer m image
+replays laws opened h events longer s m image placed whole quiet came same is = subst (λ (es : List Event). IsAllowed logging.Log (beginning opened) es m image) whole
+    (laws.front logging.Log (beginning opened) h events m image s placed quiet (omega (arith, came)) same is)
 
 -- ---- a call and its answer
 
@@ -147,7 +148,7 @@ module _ (laws : AllowedLaws) (opened : Opened) (h : List Event) (at later place
   came_by : (m : ℕ) → later ≤ m → AllByRecursion (λ e. at_of e ≤ m) rest
   came_by m from = each (λ e. at_of e ≤ m) between (λ k e. let lt = inside_at between k inside e in omega (arith, lt.1, from)) from
 
-  pub early_answered : (m : ℕ) (image : ℕ → List ℕ) → IsUnanswered m → IsAllowed (beginning opened) h m image → IsAllowed (beginning opened) longer m image
+  pub early_answered : (m : ℕ) (image : ℕ → List ℕ) → IsUnanswered m → IsAllowed logging.Log (beginning opened) h m image → IsAllowed logging.Log (beginning opened) longer m image
   early_answered m image open' is = stays laws opened h (first ∷ rest) longer m image placed whole (tt, quiet m open') is
 
   placed_begun : All (IsPlaced (length (h ++ first ∷ []))) (h ++ first ∷ [])
@@ -158,7 +159,7 @@ module _ (laws : AllowedLaws) (opened : Opened) (h : List Event) (at later place
 
   -- on the way from the one state to the other
   pub way_answered : (s new : State) → (after_all (beginning opened) h).state ≡ s → (after_all (beginning opened) (h ++ first ∷ [])).state ≡ new
-      → (m : ℕ) (image : ℕ → List ℕ) → at ≤ m → IsUnanswered m → ReplaysAs s.layout.device_sectors image s.tree ⊎ ReplaysAs new.layout.device_sectors image new.tree → IsAllowed (beginning opened) longer m image
+      → (m : ℕ) (image : ℕ → List ℕ) → at ≤ m → IsUnanswered m → ReplaysAs s.layout.device_sectors image s.tree ⊎ ReplaysAs new.layout.device_sectors image new.tree → IsAllowed logging.Log (beginning opened) longer m image
   way_answered s new was is m image from open' (inl r) =
       replays laws opened h (first ∷ rest) longer s m image placed whole (tt, quiet m open') (came m from) was r
   way_answered s new was is m image from open' (inr r) =
@@ -178,12 +179,12 @@ module _ (laws : AllowedLaws) (opened : Opened) (h : List Event) (at later place
 
 module _ (laws : AllowedLaws) (opened : Opened) (h : List Event) (s : State) (start at upto : ℕ) (low : start ≤ at) (state_is : (after_all (beginning opened) h).state ≡ s)
     (placed : All (IsPlaced (length h)) h) (came : (m : ℕ) → start ≤ m → come_by h m ≡ length h) where
-  pub early_released : (m : ℕ) (image : ℕ → List ℕ) → IsAllowed (beginning opened) h m image → IsAllowed (beginning opened) (h ++ event.Release at upto ∷ []) m image
-  early_released m image is = laws.later (beginning opened) h (event.Release at upto ∷ []) m image placed (tt, tt) is
+  pub early_released : (m : ℕ) (image : ℕ → List ℕ) → IsAllowed logging.Log (beginning opened) h m image → IsAllowed logging.Log (beginning opened) (h ++ event.Release at upto ∷ []) m image
+  early_released m image is = laws.later logging.Log (beginning opened) h (event.Release at upto ∷ []) m image placed (tt, tt) is
 
-  pub way_released : (m : ℕ) (image : ℕ → List ℕ) → start ≤ m → ReplaysAs s.layout.device_sectors image s.tree → IsAllowed (beginning opened) (h ++ event.Release at upto ∷ []) m image
+  pub way_released : (m : ℕ) (image : ℕ → List ℕ) → start ≤ m → ReplaysAs s.layout.device_sectors image s.tree → IsAllowed logging.Log (beginning opened) (h ++ event.Release at upto ∷ []) m image
   way_released m image from is =
-      laws.front (beginning opened) h (event.Release at upto ∷ []) m image s placed (tt, tt) (omega (arith, came m from)) state_is is
+      laws.front logging.Log (beginning opened) h (event.Release at upto ∷ []) m image s placed (tt, tt) (omega (arith, came m from)) state_is is
 
   pub placed_released : All (IsPlaced (length (h ++ event.Release at upto ∷ []))) (h ++ event.Release at upto ∷ [])
   placed_released = laws.placed h (event.Release at upto ∷ []) placed (tt, tt)
@@ -196,11 +197,11 @@ module _ (laws : AllowedLaws) (opened : Opened) (h : List Event) (s : State) (st
 module _ (laws : AllowedLaws) (opened : Opened) (h : List Event) (s : State) (start : ℕ) (state_is : (after_all (beginning opened) h).state ≡ s)
     (placed : All (IsPlaced (length h)) h) (came : (m : ℕ) → start ≤ m → come_by h m ≡ length h) where
   -- an image that replays as the last tree
-  pub at_end : (m : ℕ) (image : ℕ → List ℕ) → start ≤ m → ReplaysAs s.layout.device_sectors image s.tree → IsAllowed (beginning opened) h m image
+  pub at_end : (m : ℕ) (image : ℕ → List ℕ) → start ≤ m → ReplaysAs s.layout.device_sectors image s.tree → IsAllowed logging.Log (beginning opened) h m image
   at_end m image from is = replays laws opened h [] h s m image placed (append-nil h) tt (came m from) state_is is
 
-  always_failed : (t : Tape) (ops : List Operation) → length t.ops ≡ start → Past (opened.operations + 70) (IsAllowed (beginning opened) h) t
-      → Always (length t.ops) (λ _ image. ReplaysAs s.layout.device_sectors image s.tree) (did_all ops t) → Always (opened.operations + 70) (IsAllowed (beginning opened) h) (did_all ops t)
+  always_failed : (t : Tape) (ops : List Operation) → length t.ops ≡ start → Past (opened.operations + 70) (IsAllowed logging.Log (beginning opened) h) t
+      → Always (length t.ops) (λ _ image. ReplaysAs s.layout.device_sectors image s.tree) (did_all ops t) → Always (opened.operations + 70) (IsAllowed logging.Log (beginning opened) h) (did_all ops t)
   always_failed t ops begins past always m from le image is = elim (cases_lt m (length t.ops)) [
     | inl early ↦ past m from early image (subst (λ (u : Tape). IsImage u image) (upto-front m ops t (omega (arith, early))) is)
     | inr on ↦ at_end m image (omega (arith, begins, on)) (always m on le image is)
@@ -208,34 +209,34 @@ module _ (laws : AllowedLaws) (opened : Opened) (h : List Event) (s : State) (st
 
   pub told_failed : (o o2 : Option Tape) (ops : List Operation) (disabled : Option ℕ) (log : LogView) (homes : List AfterImage) → IfSome o (λ t. length t.ops ≡ start)
       → IfSome o (IsLive opened h disabled log homes s) → o2 ≡ option_map (did_all ops) o → IfSome o (λ t. Always (length t.ops) (λ _ image. ReplaysAs s.layout.device_sectors image s.tree) (did_all ops t))
-      → IfSome o2 (Always (opened.operations + 70) (IsAllowed (beginning opened) h))
-  told_failed None o2 ops disabled log homes begins live told always = subst (λ (x : Option Tape). IfSome x (Always (opened.operations + 70) (IsAllowed (beginning opened) h))) (sym told) tt
-  told_failed (Some t) o2 ops disabled log homes begins live told always = subst (λ (x : Option Tape). IfSome x (Always (opened.operations + 70) (IsAllowed (beginning opened) h))) (sym told)
+      → IfSome o2 (Always (opened.operations + 70) (IsAllowed logging.Log (beginning opened) h))
+  told_failed None o2 ops disabled log homes begins live told always = subst (λ (x : Option Tape). IfSome x (Always (opened.operations + 70) (IsAllowed logging.Log (beginning opened) h))) (sym told) tt
+  told_failed (Some t) o2 ops disabled log homes begins live told always = subst (λ (x : Option Tape). IfSome x (Always (opened.operations + 70) (IsAllowed logging.Log (beginning opened) h))) (sym told)
       (always_failed t ops begins live.past always)
 
   -- nothing is done where a write has failed before
   pub told_stopped : (o : Option Tape) (disabled : Option ℕ) (log : LogView) (homes : List AfterImage) → IsSome disabled → IfSome o (IsLive opened h disabled log homes s)
-      → IfSome o (Always (opened.operations + 70) (IsAllowed (beginning opened) h))
+      → IfSome o (Always (opened.operations + 70) (IsAllowed logging.Log (beginning opened) h))
   told_stopped None disabled log homes some live = tt
-  told_stopped (Some t) disabled log homes some live = always_now (opened.operations + 70) (IsAllowed (beginning opened) h) t live.past (live.stopped some)
+  told_stopped (Some t) disabled log homes some live = always_now (opened.operations + 70) (IsAllowed logging.Log (beginning opened) h) t live.past (live.stopped some)
 
   pub state_unmounted : (at : ℕ) → (after_all (beginning opened) (h ++ event.Unmounted at ∷ [])).state ≡ s
   state_unmounted at = ap (λ (w : World). w.state) (after_all-append (beginning opened) h (event.Unmounted at ∷ [])) ∙ state_is
 
   -- the unmounting is durable
-  at_unmounted : (at m : ℕ) (image : ℕ → List ℕ) → start ≤ at → at ≤ m → ReplaysAs s.layout.device_sectors image s.tree → IsAllowed (beginning opened) (h ++ event.Unmounted at ∷ []) m image
+  at_unmounted : (at m : ℕ) (image : ℕ → List ℕ) → start ≤ at → at ≤ m → ReplaysAs s.layout.device_sectors image s.tree → IsAllowed logging.Log (beginning opened) (h ++ event.Unmounted at ∷ []) m image
   at_unmounted at m image order from is =
       let longer = h ++ event.Unmounted at ∷ [] in
       let come : come_by longer m ≡ length longer = laws.come h (event.Unmounted at ∷ []) m (from, tt) ∙ omega (arith, came m (omega (arith, order, from)), length-append h (event.Unmounted at ∷ [])) in
       replays laws opened longer [] longer s m image (laws.placed h (event.Unmounted at ∷ []) placed (tt, tt)) (append-nil longer) tt come (state_unmounted at) is
 
-  always_unmounted : (at : ℕ) (t : Tape) (ops : List Operation) → length t.ops ≡ start → length (did_all ops t).ops ≡ at → Past (opened.operations + 70) (IsAllowed (beginning opened) h) t
-      → Always (length t.ops) (λ _ image. ReplaysAs s.layout.device_sectors image s.tree) (did_all ops t) → Always (opened.operations + 70) (IsAllowed (beginning opened) (h ++ event.Unmounted at ∷ [])) (did_all ops t)
+  always_unmounted : (at : ℕ) (t : Tape) (ops : List Operation) → length t.ops ≡ start → length (did_all ops t).ops ≡ at → Past (opened.operations + 70) (IsAllowed logging.Log (beginning opened) h) t
+      → Always (length t.ops) (λ _ image. ReplaysAs s.layout.device_sectors image s.tree) (did_all ops t) → Always (opened.operations + 70) (IsAllowed logging.Log (beginning opened) (h ++ event.Unmounted at ∷ [])) (did_all ops t)
   always_unmounted at t ops begins ends past always m from le image is = elim (cases_lt m (length t.ops)) [
-    | inl early ↦ laws.later (beginning opened) h (event.Unmounted at ∷ []) m image placed (omega (arith, early, ends, length-append t.ops ops), tt)
+    | inl early ↦ laws.later logging.Log (beginning opened) h (event.Unmounted at ∷ []) m image placed (omega (arith, early, ends, length-append t.ops ops), tt)
         (past m from early image (subst (λ (u : Tape). IsImage u image) (upto-front m ops t (omega (arith, early))) is))
     | inr on ↦ elim (cases_lt m at) [
-      | inl soon ↦ laws.front (beginning opened) h (event.Unmounted at ∷ []) m image s placed (soon, tt) (omega (arith, came m (omega (arith, begins, on)))) state_is
+      | inl soon ↦ laws.front logging.Log (beginning opened) h (event.Unmounted at ∷ []) m image s placed (soon, tt) (omega (arith, came m (omega (arith, begins, on)))) state_is
           (always m on le image is)
       | inr last ↦ at_unmounted at m image (omega (arith, begins, ends, length-append t.ops ops)) last (always m on le image is)
     ]
@@ -244,12 +245,12 @@ module _ (laws : AllowedLaws) (opened : Opened) (h : List Event) (s : State) (st
   pub told_unmounted : (at : ℕ) (o o2 : Option Tape) (ops : List Operation) (disabled : Option ℕ) (log : LogView) (homes : List AfterImage) → IfSome o (λ t. length t.ops ≡ start)
       → IfSome o2 (λ t. length t.ops ≡ at) → IfSome o (IsLive opened h disabled log homes s) → o2 ≡ option_map (did_all ops) o
       → IfSome o (λ t. Always (length t.ops) (λ _ image. ReplaysAs s.layout.device_sectors image s.tree) (did_all ops t))
-      → IfSome o2 (Always (opened.operations + 70) (IsAllowed (beginning opened) (h ++ event.Unmounted at ∷ [])))
+      → IfSome o2 (Always (opened.operations + 70) (IsAllowed logging.Log (beginning opened) (h ++ event.Unmounted at ∷ [])))
   told_unmounted at None o2 ops disabled log homes begins ends live told always =
-      subst (λ (x : Option Tape). IfSome x (Always (opened.operations + 70) (IsAllowed (beginning opened) (h ++ event.Unmounted at ∷ [])))) (sym told) tt
+      subst (λ (x : Option Tape). IfSome x (Always (opened.operations + 70) (IsAllowed logging.Log (beginning opened) (h ++ event.Unmounted at ∷ [])))) (sym told) tt
   told_unmounted at (Some t) o2 ops disabled log homes begins ends live told always =
       let stop : length (did_all ops t).ops ≡ at = subst (λ (x : Option Tape). IfSome x (λ u. length u.ops ≡ at)) told ends in
-      subst (λ (x : Option Tape). IfSome x (Always (opened.operations + 70) (IsAllowed (beginning opened) (h ++ event.Unmounted at ∷ [])))) (sym told) (always_unmounted at t ops begins stop live.past always)
+      subst (λ (x : Option Tape). IfSome x (Always (opened.operations + 70) (IsAllowed logging.Log (beginning opened) (h ++ event.Unmounted at ∷ [])))) (sym told) (always_unmounted at t ops begins stop live.past always)
 
 -- ---- the start of the history
 

@@ -7,6 +7,7 @@ use Rattle.vx_base.specs.declared.event.Event.TheVariants as event
 use Rattle.vx_base.specs.declared.reply.Reply.{Reply}
 use Rattle.vx_dev.specs.Tape.{State as Device}
 use Rattle.vx_dev.specs.Moments.{Told}
+use Rattle.vx_base.specs.declared.mode.Logging.TheVariants as logging
 use Rattle.vx_model.specs.Allowed.{come_by, is_refusal, IsAllowed}
 use Rattle.vx_model.specs.AllowedLaws.{IsPlaced, AllowedLaws}
 use Rattle.vx_model.specs.EditLaws.{EditLaws}
@@ -97,7 +98,7 @@ module _ (laws : AllowedLaws) (edits : EditLaws) (waiting : WaitingLaws) (d d2 :
     noted_untouched : ((begun.touched ≡ untouched) ⊎ IsSome begun.disabled) → IsUntouched d d2 begun after reply answer → IsNoted d2 core.opened h at later place line call reply answer new begun after
     noted_untouched why is =
         let es = longer laws core.opened h at later place line place call reply answer None order tt asked.base.placed came in
-        let early : (m : ℕ) (image : ℕ → List ℕ) → (m < later) ⊎ (is_refusal answer ≡ true) → IsAllowed (beginning core.opened) h m image → IsAllowed (beginning core.opened) es m image =
+        let early : (m : ℕ) (image : ℕ → List ℕ) → (m < later) ⊎ (is_refusal answer ≡ true) → IsAllowed logging.Log (beginning core.opened) h m image → IsAllowed logging.Log (beginning core.opened) es m image =
         early_answered laws core.opened h at later place line place call reply answer None order tt asked.base.placed came in
         let refuses : IsSome begun.disabled → is_refusal answer ≡ true = λ some. ap is_refusal is.answer_is ∙ asked.disabled (subst IsSome disabled some) in
         let now = live_still core.opened at later h es (λ m image lt. early m image (inl (omega (arith, lt, order)))) s new d.told begun.disabled begun.journal.log begun.journal.homes start
@@ -120,7 +121,7 @@ module _ (laws : AllowedLaws) (edits : EditLaws) (waiting : WaitingLaws) (d d2 :
     noted_carried is =
         let inside : IsBetween is.released at later = between_at is.released d.count d2.count at later at_is later_is is.between in
         let es = longer laws core.opened h at later place line place call reply answer is.released order inside asked.base.placed came in
-        let way : (m : ℕ) (image : ℕ → List ℕ) → at ≤ m → (m < later) ⊎ (is_refusal answer ≡ true) → ReplaysAs s.layout.device_sectors image s.tree ⊎ ReplaysAs new.layout.device_sectors image new.tree → IsAllowed (beginning core.opened) es m image =
+        let way : (m : ℕ) (image : ℕ → List ℕ) → at ≤ m → (m < later) ⊎ (is_refusal answer ≡ true) → ReplaysAs s.layout.device_sectors image s.tree ⊎ ReplaysAs new.layout.device_sectors image new.tree → IsAllowed logging.Log (beginning core.opened) es m image =
         way_answered laws core.opened h at later place line place call reply answer is.released order inside asked.base.placed came s new asked.base.run.state_is opened_call.state_is in
         record {
           between = is.released;

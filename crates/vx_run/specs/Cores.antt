@@ -11,6 +11,7 @@ use Rattle.vx_dev.specs.declared.device.DevFault.{DevFault}
 use Rattle.vx_layout.specs.LogForms.{AfterImage}
 use Rattle.vx_log.specs.Logs.{LogView}
 use Rattle.vx_dev.specs.Moments.{Told, Past, Passed}
+use Rattle.vx_base.specs.declared.mode.Logging.TheVariants as logging
 use Rattle.vx_model.specs.Allowed.{come_by, is_refusal, IsAllowed}
 use Rattle.vx_model.specs.AllowedLaws.{IsPlaced}
 use Rattle.vx_model.specs.Replays.{ReplaysAs}
@@ -42,9 +43,9 @@ pub record IsRun (opened : Opened) (history : List Event) (state : State) (count
 
 -- a crash at any earlier moment from the end of the format on leaves what the history allows, and so does one now
 pub record IsLive (opened : Opened) (history : List Event) (disabled : Option ℕ) (log : LogView) (homes : List AfterImage) (s : State) (t : dev.Tape) : Type 0 where
-  pub past : Past (opened.operations + 70) (IsAllowed (beginning opened) history) t
+  pub past : Past (opened.operations + 70) (IsAllowed logging.Log (beginning opened) history) t
   pub kept : disabled ≡ None → IsKept log homes s t
-  pub stopped : IsSome disabled → (image : ℕ → List ℕ) → dev.IsImage t image → IsAllowed (beginning opened) history (length t.ops) image
+  pub stopped : IsSome disabled → (image : ℕ → List ℕ) → dev.IsImage t image → IsAllowed logging.Log (beginning opened) history (length t.ops) image
 
 -- what holds of the device, the journal and the history between two calls, which lead to the state
 pub record IsBase (d : dev.State) (core : Core) (s : State) : Type 0 where

@@ -15,6 +15,7 @@ use Rattle.vx_script.specs.Output.{output_of}
 use Rattle.vx_script.specs.Puts.{AppendsPrefix}
 use Rattle.vx_run.specs.Words.{are_words}
 use Rattle.vx_dev.specs.Moments.{Told, Always}
+use Rattle.vx_base.specs.declared.mode.Logging.TheVariants as logging
 use Rattle.vx_model.specs.Allowed.{IsAllowed}
 use Rattle.vx_model.specs.Legal.{after_all}
 use Rattle.vx_model.specs.Replays.{IsLeft}
@@ -100,7 +101,7 @@ pub record IsFinished (s : Setting) (d : dev.State) (disabled : Bool) (history :
   pub rose : disabled ≡ true → Rose s.device.write_faults d.write_faults
   pub formatted : s.device.count + format_ops ≤ d.count
   pub came : All (CameBetween (s.device.count + format_ops) d.count) history
-  pub crash : Told d (Always (s.device.count + format_ops) (IsAllowed (beginning (opened_on s.device)) history))
+  pub crash : Told d (Always (s.device.count + format_ops) (IsAllowed logging.Log (beginning (opened_on s.device)) history))
   pub clean : disabled ≡ false → Told d (IsLeft s.device.size (after_all (beginning (opened_on s.device)) history).state.tree)
 
 -- the cause of each end

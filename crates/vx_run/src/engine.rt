@@ -53,6 +53,7 @@ pub struct Core {
 impl Core {
     ghost use Rattle.vx_dev.specs.Moments.{Told, Always};
     ghost use Rattle.vx_log.specs.Logs.{fresh_log};
+    ghost use Rattle.vx_base.specs.declared.mode.Logging.TheVariants as logging;
     ghost use Rattle.vx_model.specs.Allowed.{IsAllowed};
     ghost use Rattle.vx_model.specs.Legal.{after_all, with_released};
     ghost use Rattle.vx_model.specs.State.{fresh};
@@ -351,7 +352,7 @@ impl Core {
     pub fn unmount<D: BlockDev>(&mut self, dev: &mut D)
         requires core { IsCore (D.state dev.old) self.old }
         requires room { vec_len self.old.history < vec_capacity self.old.history }
-        ensures allowed { Told (D.state dev.new) (Always (self.new.opened.operations + 70) (IsAllowed (beginning self.new.opened) self.new.history.items)) }
+        ensures allowed { Told (D.state dev.new) (Always (self.new.opened.operations + 70) (IsAllowed logging.Log (beginning self.new.opened) self.new.history.items)) }
         ensures clean { self.new.disabled ≡ None → Told (D.state dev.new) (IsLeft self.new.opened.sectors (after_all (beginning self.new.opened) self.new.history.items).state.tree) }
         ensures ended { IsEnded self.new.opened self.new.history.items }
         ensures unmounted { is_unmounted self.new.opened self.new.history.items ≡ is_none self.new.disabled }

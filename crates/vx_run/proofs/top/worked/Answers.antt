@@ -6,6 +6,7 @@ use Rattle.vx_base.specs.declared.event.Event.{Event}
 use Rattle.vx_layout.specs.LogForms.{AfterImage}
 use Rattle.vx_log.specs.Logs.{LogView, fresh_log}
 use Rattle.vx_dev.specs.Moments.{Told, Always}
+use Rattle.vx_base.specs.declared.mode.Logging.TheVariants as logging
 use Rattle.vx_model.specs.Allowed.{come_by, IsAllowed}
 use Rattle.vx_model.specs.AllowedLaws.{IsPlaced}
 use Rattle.vx_model.specs.Legal.{after_all}
@@ -123,7 +124,7 @@ returns-clause-ended g c =
       came = subst (λ (n : ℕ). All (CameBetween n (g.D.BlockDev.state c.unmount.new.dev).count) history) c.in-Ok-format.ensures.count
           (came_all _ _ c.in-Ok-fresh.core.history.items history c.in-Ok-fresh.ensures.history
           (came_then _ _ _ _ _ _ c.answer_all.ensures.onward.later c.unmount.ensures.onward.later c.answer_all.ensures.came c.unmount.ensures.came));
-      crash = subst (λ (o : Opened). Told (g.D.BlockDev.state c.unmount.new.dev) (Always (o.operations + 70) (IsAllowed (beginning o) history))) opened c.unmount.ensures.allowed;
+      crash = subst (λ (o : Opened). Told (g.D.BlockDev.state c.unmount.new.dev) (Always (o.operations + 70) (IsAllowed logging.Log (beginning o) history))) opened c.unmount.ensures.allowed;
       clean = λ off. subst (λ (o : Opened). Told (g.D.BlockDev.state c.unmount.new.dev) (IsLeft o.sectors (after_all (beginning o) history).state.tree)) opened
           (c.unmount.ensures.clean (none_of c.unmount.new.self.disabled c.is_some.result c.is_some.ensures off));
     }

@@ -3,6 +3,7 @@ use Rattle.std.specs.Prelude.{is_none, IfSome}
 use Rattle.vx_base.specs.declared.event.Event.{Event}
 use Rattle.vx_base.specs.declared.event.Event.TheVariants as event
 use Rattle.vx_dev.specs.Moments.{Told, Always, Passed}
+use Rattle.vx_base.specs.declared.mode.Logging.TheVariants as logging
 use Rattle.vx_model.specs.Allowed.{IsAllowed}
 use Rattle.vx_model.specs.Legal.{after_all}
 use Rattle.vx_model.specs.Replays.{ReplaysAs, IsLeft}
@@ -44,7 +45,7 @@ returns-in-Ok-clause-allowed g c =
     let none = none_of core.disabled c.is_some.result c.is_some.ensures c.if-is_some.false in
     let passed : Passed (λ image. ReplaysAs s.layout.device_sectors image s.tree) d d2 =
     c.unmount.ensures.passed s c.requires.core.base.mounted (kept_live core.opened core.history.items s d.told core.disabled core.journal.log core.journal.homes none c.requires.core.base.live) in
-    subst (λ (es : List Event). Told d2 (Always (core.opened.operations + 70) (IsAllowed (beginning core.opened) es))) (sym c.push_reserved.ensures.items)
+    subst (λ (es : List Event). Told d2 (Always (core.opened.operations + 70) (IsAllowed logging.Log (beginning core.opened) es))) (sym c.push_reserved.ensures.items)
     (told_unmounted c.allowed_laws.ensures core.opened core.history.items s d.count c.requires.core.base.run.state_is c.requires.core.base.placed c.requires.core.base.come c.ops-at.result
     d.told d2.told passed.ops core.disabled core.journal.log core.journal.homes (g.met.D.BlockDev.in_step c.args.dev.now)
     (subst (λ (n : ℕ). IfSome d2.told (λ t. length t.ops ≡ n)) (sym c.ops-at.ensures.number) (g.met.D.BlockDev.in_step c.unmount.new.dev)) c.requires.core.base.live passed.told passed.always)
