@@ -1,0 +1,252 @@
+-- A mount begins: an empty log, and an empty history.
+use Rattle.std.proofs.Common.{◌≡◌, ℕ, zero, suc, ◌+◌, ◌<◌, ◌≤◌, ◌^◌, Bool, true, false, cond, List, [], length, Option, Some, None, refl, sym, ap, subst, ◌∙◌, arith, inl, inr}
+use Rattle.std.specs.Prelude.{◌||◌, ◌==◌, is_some, IfSome, IsTrue, option_map, All, slice_get}
+use Rattle.std.proofs.lemmas.Bool.{eqb-true, ne_eqb}
+use Rattle.std.proofs.lemmas.List.Elements.{All-nil}
+use Rattle.vx_base.specs.declared.event.Event.{Event}
+use Rattle.vx_base.specs.declared.inode.DirEntry.{DirEntry}
+use Rattle.vx_dev.specs.declared.device.Operation.{Operation}
+use Rattle.vx_dev.specs.declared.device.Operation.TheVariants.{Put, Barrier}
+use Rattle.vx_dev.specs.Tape.{Tape, State as Device, Did, DidNothing, Failed, did, tried, MayHold, Settles, IsImage, IsInStep}
+use Rattle.vx_layout.specs.Dirs.{dir_bytes}
+use Rattle.vx_layout.specs.LogForms.{AfterImage, IsHomeSector, LogState}
+use Rattle.vx_layout.specs.Places.{Volume, is_data, block_sector, sector_part}
+use Rattle.vx_layout.specs.Supers.{IsSuper, super_bytes, volume_of}
+use Rattle.vx_layout.specs.declared.superblock.Super.{Super}
+use Rattle.vx_log.specs.Crashes.{Stands}
+use Rattle.vx_dev.specs.Moments.{Told, Passed}
+use Rattle.vx_log.specs.declared.log.Closing.{Closing}
+use Rattle.vx_dev.proofs.Claims.{passed_did, passed_still, passed_join, told_weaker}
+use Rattle.vx_model.specs.AllowedLaws.{IsPlaced}
+use Rattle.vx_model.specs.Contents.{parsed_of}
+use Rattle.vx_model.specs.Images.{is_metadata, contents, content_at}
+use Rattle.vx_model.specs.Layout.{Claim, claim_of, is_free}
+use Rattle.vx_model.specs.Legal.{World, Legal, opening, at_of, after_all}
+use Rattle.vx_model.specs.Replays.{ReplaysAs}
+use Rattle.vx_model.specs.State.{State}
+use Rattle.vx_model.specs.Waiting.{is_claimed}
+use Rattle.vx_log.specs.Batches.{noted_at}
+use Rattle.vx_model.specs.Allowed.{HoldsFront}
+use Rattle.vx_stage.specs.Leads.{state_at}
+use Rattle.vx_stage.specs.Kernels.{mounted_super, log_size, IsMounted, IsReadingOf, IsNoted, IsLevel, IsBegun, HasRun, Now, IsLive, present}
+use Rattle.vx_stage.specs.KernelLaws.{KernelLaws}
+use Rattle.vx_stage.specs.Leads.{Leads, AreYoung}
+use Rattle.vx_stage.specs.declared.kernel.Job.{Job}
+use Rattle.vx_stage.specs.declared.kernel.Job.TheVariants.{Idle}
+use Rattle.vx_stage.specs.declared.kernel.Kernel.{Kernel}
+use Rattle.vx_stage.specs.declared.begin.Room.{Room}
+use Rattle.vx_base.specs.declared.mode.Logging.{Logging}
+use Rattle.vx_stage.proofs.Gates.{or_right, or_false, free_parts, claim_none, none_some}
+use Rattle.vx_stage.proofs.Levels.{level_write, level_barrier, level_replays, begun_at}
+use Rattle.vx_stage.proofs.Merging.{nothing}
+use Rattle.vx_stage.proofs.Releasing.{high, mapped_some}
+use Rattle.vx_stage.proofs.Showing.{same_volume}
+
+-- the kernel of a mount that begins with this room
+abbrev pub begun_by : Super → Logging → ℕ → Room → Kernel
+begun_by sizes logging first room = record { sizes = sizes; logging = logging; first = first; log = room.log; homes = room.homes; gathered = room.gathered; ready = Some room.ready; job = Idle; committed = 0; closing = 0; history = room.history }
+
+-- ---- the history is empty
+
+module _ (k : Kernel) (s : State) (empty : k.history.items ≡ []) (committed : k.committed ≡ 0) (closing : k.closing ≡ 0) where
+  abbrev o : World
+  o = opening k.first s
+
+  on_empty : (P : List Event → Type 0) → P [] → P k.history.items
+  on_empty P is = subst P (sym empty) is
+
+  present_is : present o k ≡ s
+  present_is = on_empty (λ es. (after_all o es).state ≡ s) refl
+
+  state_is : (i : ℕ) → state_at o k.history.items i ≡ s
+  state_is i = on_empty (λ es. state_at o es i ≡ s) (none i)
+    where
+      none : (n : ℕ) → state_at o [] n ≡ s
+      none zero = refl
+      none (suc n) = refl
+
+  pub begun_run : (d : Device) → IsMounted k.sizes s → k.first ≤ d.count → HasRun o d k
+  begun_run d m later = record {
+    legal = on_empty (λ es. Legal o es) tt;
+    next = on_empty (λ es. (after_all o es).next ≡ length es) refl;
+    at = on_empty (λ es. (after_all o es).at ≤ d.count) later;
+    come = on_empty (All (λ x. at_of x ≤ d.count)) (All-nil (λ x. at_of x ≤ d.count));
+    placed = on_empty (λ es. All (IsPlaced (length es)) es) (All-nil (IsPlaced 0));
+    order = omega (arith, committed, closing);
+    within = omega (arith, closing);
+    durable = λ m. on_empty (λ es. HoldsFront k.logging es m k.committed) (record {
+      returned = λ at place answer there early told. absurd (omega (arith, there.1));
+      unmounted = λ at place found early. absurd (none_there place found);
+    });
+    mounted = λ i le. subst (IsMounted k.sizes) (sym (state_is i)) m;
+    mounted_now = subst (IsMounted k.sizes) (sym present_is) m;
+    claimed = λ i b low le there. inl (subst (λ (x : State). is_claimed x b ≡ true) (state_is i ∙ sym present_is) there);
+    waits = λ i b p le pends lt. absurd (omega (arith, le, lt, ap (λ (es : List Event). length es) empty));
+  }
+    where
+      none_there : {e : Event} (i : ℕ) → slice_get [] i ≡ Some e → ⊥
+      none_there zero is = cc
+      none_there (suc i) is = cc
+
+  -- ---- the log is empty
+
+  module _ (laws : KernelLaws) (is_super : IsSuper k.sizes) (m : IsMounted k.sizes s) where
+    abbrev vol : Volume
+    vol = volume_of k.sizes
+
+    -- the superblock is metadata too
+    abbrev reading : ℕ → ℕ → LogState
+    reading serial position = record {
+      serial = serial;
+      tail = position;
+      head = position;
+      records = [];
+      is_metadata = λ q. q == 0 || is_metadata vol (parsed_of s) q;
+      contents = λ q. cond (q == 0) (super_bytes (mounted_super k.sizes)) (contents vol (parsed_of s) q);
+    }
+
+    not_zero : (q : ℕ) → IsTrue (is_metadata vol (parsed_of s) q) → (q == 0) ≡ false
+    not_zero q there = ne_eqb q 0 (λ e. omega (arith, e, laws.past_log k.sizes (parsed_of s) q there))
+
+    reading_is : (serial position : ℕ) → serial < 2 ^ 64 → position ≤ 2 ^ 62 → IsReadingOf k.sizes s (reading serial position)
+    reading_is serial position small limit = record {
+      says = record {
+        sectors = λ q there. or_right (q == 0) (is_metadata vol (parsed_of s) q) there;
+        bytes = λ q there. ap (λ (b : Bool). cond b (super_bytes (mounted_super k.sizes)) (contents vol (parsed_of s) q)) (not_zero q there);
+      };
+      superblock = refl;
+      superblock_is = refl;
+      serial = small;
+      limit = limit;
+      form = tt;
+      unnamed = λ x. refl;
+    }
+
+    apart : (q : ℕ) (b : Bool) → (q == 0) ≡ b → IsTrue (b || is_metadata vol (parsed_of s) q) → IsHomeSector (log_size k.sizes) q
+    apart q true zero_ there = inl (eqb-true q 0 zero_)
+    apart q false other there = inr (laws.past_log k.sizes (parsed_of s) q there)
+
+    held_there : (serial position : ℕ) (t : Tape) → IsBegun k.sizes s serial position t → (q : ℕ) (x : List ℕ) (b : Bool) → (q == 0) ≡ b → IsTrue (b || is_metadata vol (parsed_of s) q) → MayHold t q x
+        → x ≡ cond b (super_bytes (mounted_super k.sizes)) (contents vol (parsed_of s) q)
+    held_there serial position t begun q x true zero_ there may = begun.mounted x (subst (λ (u : ℕ). MayHold t u x) (eqb-true q 0 zero_) may)
+    held_there serial position t begun q x false other there may = begun.level.metadata q x there may
+
+    stands : (serial position : ℕ) (t : Tape) → IsBegun k.sizes s serial position t → Stands (log_size k.sizes) (reading serial position) t
+    stands serial position t begun = record {
+      holds = record {
+        apart = λ q there. apart q (q == 0) refl there;
+        ends = omega arith;
+        fits = omega arith;
+        whole = λ i x lt may. absurd (omega (arith, lt));
+        metadata = λ q x there may. held_there serial position t begun q x (q == 0) refl there may;
+      };
+      head_is = begun.level.head;
+    }
+
+    free_apart : (b j : ℕ) → is_free s.layout b ≡ true → j < 2 → (block_sector 2 b + j == 0 || is_metadata vol (parsed_of s) (block_sector 2 b + j)) ≡ false
+    free_apart b j free lt =
+        let q : ℕ = block_sector 2 b + j in
+        let parts = free_parts s.layout b free in
+        let here : IsTrue (is_data vol b) = subst (λ (w : Volume). is_data w b ≡ true) (same_volume k.sizes s m) parts.0 in
+        let content : content_at vol (parsed_of s) q ≡ option_map (λ es. sector_part j (dir_bytes 1024 es)) ((parsed_of s).blocks b) = laws.parts k.sizes (parsed_of s) b j here lt in
+        let unclaimed : is_some (option_map (λ es. sector_part j (dir_bytes 1024 es)) ((parsed_of s).blocks b)) ≡ false =
+        claim_none (λ (es : List DirEntry). sector_part j (dir_bytes 1024 es)) ((parsed_of s).blocks b)
+        (λ there. none_some (claim_of s.layout b) parts.1 (mapped_some (λ (x : Claim). x.entries) (claim_of s.layout b) there)) in
+        or_false (q == 0) (is_metadata vol (parsed_of s) q) (high k.sizes b j here) (ap is_some content ∙ unclaimed)
+
+    module _ (job_is : k.job ≡ Idle) (homes : k.homes ≡ []) (gathered : k.gathered ≡ []) (free : k.log.closing ≡ None) (level : k.log.tail ≡ k.log.head) where
+      begun_live_at : (t : Tape) → length t.ops ≡ k.first → IsBegun k.sizes s k.log.serial k.log.head t → IsLive o k t
+      begun_live_at t count begun =
+          let r : LogState = reading k.log.serial k.log.head in
+          record {
+            past = λ n from lt image is. absurd (omega (arith, from, lt, count));
+            reading = r;
+            now = subst (λ (j : Job). Now k j o r t) (sym job_is) (
+              record {
+                reading = subst (λ (x : State). IsReadingOf k.sizes x r) (sym (state_is k.committed)) (reading_is k.log.serial k.log.head begun.level.serial_limit begun.level.limit);
+                serial = refl;
+                tail = sym level;
+                head = refl;
+                noted = λ q. subst (λ (hs : List AfterImage). IsNoted r q (noted_at hs q)) (sym homes) (λ x. refl);
+                apart = λ b j is lt. free_apart b j (subst (λ (x : State). is_free x.layout b ≡ true) present_is is) lt;
+                leads = subst (λ (hs : List AfterImage). Leads vol (parsed_of (state_at o k.history.items k.closing)) (parsed_of (present o k)) hs) (sym gathered)
+                    (subst (λ (x : State). Leads vol (parsed_of x) (parsed_of (present o k)) []) (present_is ∙ sym (state_is k.closing)) (nothing vol (parsed_of (present o k))));
+                young = subst (λ (hs : List AfterImage). AreYoung (present o k) k.closing hs) (sym gathered) (λ b j data_ lt. tt);
+                batch_leads = λ c is. absurd (let wrong : ◌≡◌ {A = Option Closing} None (Some c) = sym free ∙ is in cc);
+                batch_young = λ c is. absurd (let wrong : ◌≡◌ {A = Option Closing} None (Some c) = sym free ∙ is in cc);
+              },
+              stands k.log.serial k.log.head t begun,
+            );
+          }
+
+      pub begun_live : (d : Device) → k.first ≡ d.count → IsInStep d → Told d (IsBegun k.sizes s k.log.serial k.log.head) → Told d (IsLive o k)
+      begun_live d first step told = by_cases d.told step told
+        where
+          by_cases : (x : Option Tape) → IfSome x (λ t. length t.ops ≡ d.count) → IfSome x (IsBegun k.sizes s k.log.serial k.log.head) → IfSome x (IsLive o k)
+          by_cases None count is = tt
+          by_cases (Some t) count is = begun_live_at t (omega (arith, count, first)) is
+
+-- ---- a clean image is marked as mounted
+
+did_told : (op : Operation) (a b : Device) (P Q : Tape → Type 0) → Did op a b → ((t : Tape) → P t → Q (did op t)) → Told a P → Told b Q
+did_told op a b P Q d f h = subst (λ (x : Option Tape). IfSome x Q) (sym d.told) (by_cases a.told h)
+  where
+    by_cases : (x : Option Tape) → IfSome x P → IfSome (option_map (did op) x) Q
+    by_cases None k = tt
+    by_cases (Some t) k = f t k
+
+module _ (laws : KernelLaws) (v : Super) (s : State) (is_super : IsSuper v) (m : IsMounted v s) (serial position : ℕ) where
+  abbrev super : List ℕ
+  super = super_bytes (mounted_super v)
+
+  abbrev Level : Tape → Type 0
+  Level t = IsLevel v s serial position t
+
+  abbrev IsMarked : Tape → Type 0
+  IsMarked t = Level t × Settles t 0 super
+
+  abbrev pub Same : (ℕ → List ℕ) → Type 0
+  Same image = ReplaysAs s.layout.device_sectors image s.tree
+
+  shown : (d : Device) → Told d Level → Told d (λ t. (image : ℕ → List ℕ) → IsImage t image → Same image)
+  shown d h = told_weaker d Level (λ t. (image : ℕ → List ℕ) → IsImage t image → Same image) (level_replays laws v s is_super m serial position) h
+
+  put_at : (t : Tape) → Level t → IsMarked (did (Put 0 super) t)
+  put_at t l = (level_write laws v s is_super m serial position t (Put 0 super) super (laws.tape.put_writes 0 super) (inl refl) l, laws.tape.put_settles t 0 super)
+
+  module _ (a b : Device) (told : Told a Level) (first : Did Barrier a b) where
+    level_b : Told b Level
+    level_b = did_told Barrier a b Level Level first (level_barrier laws v s is_super m serial position) told
+
+    pub first_passed : Passed Same a b
+    first_passed = passed_did Same Barrier a b first (shown a told) (shown b level_b)
+
+    pub put_failed : (c : Device) → Failed 0 super b c → Passed Same a c
+    put_failed c failed = passed_join Same a b c first_passed (elim failed.did [
+      | inl done ↦ passed_did Same (tried 0 super) b c done (shown b level_b) (shown c (did_told (tried 0 super) b c Level Level done
+          (λ t l. level_write laws v s is_super m serial position t (tried 0 super) super (laws.tape.failed_writes 0 super) (inl refl) l) level_b))
+      | inr nothing_ ↦ passed_still Same b c nothing_.told (shown b level_b)
+    ])
+
+    module _ (c : Device) (second : Did (Put 0 super) b c) where
+      marked : Told c IsMarked
+      marked = did_told (Put 0 super) b c Level IsMarked second put_at level_b
+
+      level_c : Told c Level
+      level_c = told_weaker c IsMarked Level (λ t h. h.0) marked
+
+      put_passed : Passed Same a c
+      put_passed = passed_join Same a b c first_passed (passed_did Same (Put 0 super) b c second (shown b level_b) (shown c level_c))
+
+      pub last_failed : (d : Device) → DidNothing c d → Passed Same a d
+      last_failed d nothing_ = passed_join Same a c d put_passed (passed_still Same c d nothing_.told (shown c level_c))
+
+      pub last_passed : (d : Device) → Did Barrier c d → Passed Same a d
+      last_passed d last = passed_join Same a c d put_passed (passed_did Same Barrier c d last (shown c level_c)
+          (shown d (did_told Barrier c d IsMarked Level last (λ t h. level_barrier laws v s is_super m serial position t h.0) marked)))
+
+      pub begun : (d : Device) → Did Barrier c d → Told d (IsBegun v s serial position)
+      begun d last = did_told Barrier c d IsMarked (IsBegun v s serial position) last (λ t h. begun_at laws v s is_super m serial position t h.0 h.1) marked
+
+  pub first_failed : (a b : Device) → Told a Level → DidNothing a b → Passed Same a b
+  first_failed a b told nothing_ = passed_still Same a b nothing_.told (shown a told)

@@ -1,0 +1,6 @@
+pub mod Leads
+pub mod MergeLaws
+pub mod Kernels
+pub mod KernelLaws
+pub mod Growths
+pub mod DoLaws

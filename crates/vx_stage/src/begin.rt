@@ -1,0 +1,86 @@
+//! Where a mount begins.
+ghost use Rattle.std.specs.Prelude.{◌≡◌, ◌<◌, ◌≤◌, ◌+◌, ◌^◌, ℕ, [], Some, IsNone, OnOk};
+ghost use Rattle.vx_base.specs.Faults.{HasCause};
+ghost use Rattle.vx_dev.specs.Tape.{IsInStep, State as Device};
+ghost use Rattle.vx_layout.specs.Supers.{IsSuper};
+ghost use Rattle.vx_dev.specs.Moments.{Told, Passed};
+ghost use Rattle.vx_model.specs.Legal.{opening};
+ghost use Rattle.vx_model.specs.Replays.{ReplaysAs};
+ghost use Rattle.vx_model.specs.State.{State};
+ghost use Rattle.vx_stage.specs.Kernels.{log_size, device_size, IsFitAlone, IsMounted, IsLevel, IsBegun, HasRun, IsLive};
+ghost use Rattle.vx_stage.specs.KernelLaws.{KernelLaws};
+ghost use Rattle.vx_stage.specs.declared.kernel.Job.TheVariants.{Idle};
+
+use crate::kernel::{Job, Kernel};
+use vx_base::{Event, Logging};
+use vx_dev::{BlockDev, DevFault};
+use vx_home::Homes;
+use vx_layout::Super;
+use vx_log::{Batch, Log};
+
+/// The sector of the superblock.
+const SUPER_SECTOR: u64 = 0;
+
+/// What a kernel needs of memory, all of it empty.
+#[derive(Drop)]
+pub struct Room {
+    pub log: Log,
+    pub homes: Homes,
+    pub gathered: Batch,
+    pub ready: Batch,
+    pub history: Vec<Event>,
+}
+
+impl Kernel {
+    /// The kernel of a mount that begins now, on a device whose log is empty. Its history is empty.
+    pub fn begin(sizes: Super, logging: Logging, first: u64, room: Room) -> Kernel
+        requires is { IsSuper sizes }
+        requires sectors { room.log.sectors ≡ log_size sizes }
+        requires free { IsNone room.log.closing }
+        requires level { room.log.tail ≡ room.log.head }
+        requires homes { room.homes ≡ [] }
+        requires gathered { room.gathered ≡ [] }
+        requires ready { room.ready ≡ [] }
+        requires history { room.history.items ≡ [] }
+        ensures fit { IsFitAlone result }
+        ensures run { (s : State) (d : Device) → IsMounted sizes s → first ≤ d.count → HasRun (opening first s) d result }
+        ensures live { KernelLaws → (s : State) (d : Device) → IsMounted sizes s → first ≡ d.count → IsInStep d → Told d (IsBegun sizes s room.log.serial room.log.head) → Told d (IsLive (opening first s) result) }
+        ensures same { result ≡ record { sizes = sizes; logging = logging; first = first; log = room.log; homes = room.homes; gathered = room.gathered; ready = Some room.ready; job = Idle; committed = 0; closing = 0; history = room.history } }
+    {
+        Kernel {
+            sizes,
+            logging,
+            first,
+            log: room.log,
+            homes: room.homes,
+            gathered: room.gathered,
+            ready: Some(room.ready),
+            job: Job::Idle,
+            committed: 0,
+            closing: 0,
+            history: room.history,
+        }
+    }
+}
+
+/// Makes the superblock that of a mounted file system, on a device whose log is empty: a barrier, the superblock, a barrier. Whatever a
+/// crash leaves meanwhile replays as the same tree.
+pub fn mark<D: BlockDev>(dev: &mut D, sizes: &Super) -> Result<(), DevFault>
+    requires is { IsSuper sizes.now }
+    requires size { device_size sizes.now ≤ (D.state dev.old).size }
+    ensures begun { KernelLaws → (s : State) (serial position : ℕ) → IsMounted sizes.now s → Told (D.state dev.old) (IsLevel sizes.now s serial position) → OnOk result (Told (D.state dev.new) (IsBegun sizes.now s serial position)) }
+    ensures passed { KernelLaws → (s : State) (serial position : ℕ) → IsMounted sizes.now s → Told (D.state dev.old) (IsLevel sizes.now s serial position) → Passed (λ image. ReplaysAs s.layout.device_sectors image s.tree) (D.state dev.old) (D.state dev.new) }
+    ensures size { (D.state dev.new).size ≡ (D.state dev.old).size }
+    ensures cause { HasCause (D.state dev.old).write_faults (D.state dev.new).write_faults result }
+{
+    let superblock = Super {
+        log_blocks: sizes.log_blocks,
+        units: sizes.units,
+        clean: false,
+    };
+    let bytes = superblock.write();
+    dev.barrier()?;
+    dev.write(SUPER_SECTOR, &bytes)?;
+    dev.barrier()?;
+    Ok(())
+}

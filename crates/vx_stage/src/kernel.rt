@@ -1,0 +1,473 @@
+//! The log and the homes of a mount, one device stage a turn.
+ghost use Rattle.std.specs.Prelude.{◌≡◌, ◌^◌, ◌<◌, ◌≤◌, ◌++◌, ◌∷◌, [], ◌+◌, length, OnOk, OnErr, vec_len, vec_capacity};
+ghost use Rattle.vx_base.specs.Faults.{HasCause};
+ghost use Rattle.vx_dev.specs.Tape.{IsInStep, State as Device};
+ghost use Rattle.vx_stage.specs.Growths.{IsGrowth, FreesNone, IsOver, next_state};
+ghost use Rattle.vx_base.specs.declared.event.Event.TheVariants as event;
+ghost use Rattle.vx_layout.specs.LogForms.{log_length};
+ghost use Rattle.vx_log.specs.Logs.{closed};
+ghost use Rattle.vx_layout.specs.Supers.{IsSuper};
+ghost use Rattle.vx_stage.specs.Leads.{Leads, AreYoung};
+ghost use Rattle.vx_log.specs.Batches.{with_notes};
+ghost use Rattle.vx_log.specs.NoteLaws.{NoteLaws};
+ghost use Rattle.vx_layout.specs.Supers.{volume_of};
+ghost use Rattle.vx_model.specs.AllowedLaws.{IsQuiet};
+ghost use Rattle.vx_model.specs.Contents.{parsed_of};
+ghost use Rattle.vx_model.specs.Replays.{IsLeft};
+ghost use Rattle.vx_dev.specs.Moments.{Told, Always};
+ghost use Rattle.vx_model.specs.Allowed.{IsAllowed};
+ghost use Rattle.vx_model.specs.Legal.{World};
+ghost use Rattle.vx_stage.specs.Kernels.{IsFit, IsFitAlone, HasRun, IsLive, present};
+ghost use Rattle.vx_stage.specs.KernelLaws.{KernelLaws};
+ghost use Rattle.vx_stage.specs.declared.kernel.Job.TheVariants.{Idle, Body, BodyOut, Head, HeadOut, Homes as HomesJob, HomesOut, Tail, TailOut, Leave, LeaveOut, Left, Broken};
+
+use std::mem;
+use vx_base::{Event, Logging};
+use vx_dev::{BlockDev, DevFault};
+use vx_home::Homes;
+use vx_layout::Super;
+use vx_log::{AfterImage, Batch, Log, note_laws};
+
+/// From this position on, the positions begin at 0 again when the log is emptied.
+const RESTART: u64 = 1 << 61;
+
+/// The sector of the superblock.
+const SUPER_SECTOR: u64 = 0;
+
+/// What the mount does on its device, one stage after another.
+#[derive(Clone, Copy, Debug, PartialEq, Eq)]
+pub enum Job {
+    Idle,
+    /// The log sectors of the closing batch are written.
+    Body,
+    /// They are, and a barrier is owed.
+    BodyOut,
+    /// The head sector with the new head is to be written.
+    Head,
+    /// It is, and a barrier is owed.
+    HeadOut,
+    /// The noted sectors are written home; so many are.
+    Homes { put: u32 },
+    /// All are, and a barrier is owed.
+    HomesOut,
+    /// The head sector with the tail at the head is to be written.
+    Tail,
+    /// It is, and a barrier is owed.
+    TailOut,
+    /// The superblock of a clean file system is to be written.
+    Leave,
+    /// It is, and a barrier is owed.
+    LeaveOut,
+    /// The file system is left.
+    Left,
+    /// A write or a barrier has failed.
+    Broken,
+}
+
+/// What a mount keeps of its log, and the history of its calls.
+#[derive(Drop)]
+pub struct Kernel {
+    /// The superblock of the mounted file system.
+    pub sizes: Super,
+    pub logging: Logging,
+    /// The operations done on the device when the history began.
+    pub first: u64,
+    pub log: Log,
+    pub homes: Homes,
+    /// What the calls since the last commit was asked for have changed.
+    pub gathered: Batch,
+    /// The room of the next open batch, where no batch is being written.
+    pub ready: Option<Batch>,
+    pub job: Job,
+    /// How many events of the history a crash now leaves at least.
+    pub committed: u64,
+    /// How many the open batch stands on: those of the closing batch, where there is one.
+    pub closing: u64,
+    pub history: Vec<Event>,
+}
+
+impl Kernel {
+    /// What a crash leaves, now or at any moment since the history began, is what the history allows.
+    pub fn facts<D: BlockDev>(&self, _dev: &D)
+        requires fit { IsFit (D.state _dev.now) self.now }
+        ensures crash { KernelLaws → (o : World) → HasRun o (D.state _dev.now) self.now → Told (D.state _dev.now) (IsLive o self.now)
+            → Told (D.state _dev.now) (Always self.now.first (IsAllowed self.now.logging o self.now.history.items)) }
+    {}
+
+    /// Begins to write home all that is noted, so that the log can be emptied.
+    pub fn empty(&mut self)
+        requires job { self.old.job ≡ Idle }
+        requires fit { IsFitAlone self.old }
+        ensures fit { IsFitAlone self.new }
+        ensures job { self.new.job ≡ HomesJob 0 }
+        ensures run { (o : World) (d : Device) → HasRun o d self.old → HasRun o d self.new }
+        ensures live { (o : World) (d : Device) → HasRun o d self.old → Told d (IsLive o self.old) → Told d (IsLive o self.new) }
+        ensures same { self.new ≡ record self.old { job = HomesJob 0 } }
+    {
+        self.job = Job::Homes { put: 0 };
+    }
+
+    /// Does the next stage of the job: up to eight sectors, or a barrier. Nothing where there is none.
+    pub fn stage<D: BlockDev>(&mut self, dev: &mut D) -> Result<(), DevFault>
+        requires fit { IsFit (D.state dev.old) self.old }
+        ensures fit { IsFit (D.state dev.new) self.new }
+        ensures live { KernelLaws → (o : World) → HasRun o (D.state dev.old) self.old → Told (D.state dev.old) (IsLive o self.old) → Told (D.state dev.new) (IsLive o self.new) }
+        ensures run { (o : World) → HasRun o (D.state dev.old) self.old → HasRun o (D.state dev.new) self.new }
+        ensures history { self.new.history ≡ self.old.history }
+        ensures broken { OnErr result (self.new.job ≡ Broken) }
+        ensures cause { HasCause (D.state dev.old).write_faults (D.state dev.new).write_faults result }
+    {
+        match self.job {
+            Job::Body => self.put_body(dev),
+            Job::BodyOut => self.pass_body(dev),
+            Job::Head => self.open_gate(dev),
+            Job::HeadOut => self.pass_head(dev),
+            Job::Homes { put } => self.put_homes(dev, put),
+            Job::HomesOut => self.pass_homes(dev),
+            Job::Tail => {
+                if self.log.head() < RESTART {
+                    self.put_tail(dev)
+                } else {
+                    self.put_restart(dev)
+                }
+            }
+            Job::TailOut => self.pass_tail(dev),
+            Job::Leave => self.put_leave(dev),
+            Job::Idle | Job::LeaveOut | Job::Left | Job::Broken => Ok(()),
+        }
+    }
+
+    /// Writes up to eight log sectors of the closing batch.
+    pub fn put_body<D: BlockDev>(&mut self, dev: &mut D) -> Result<(), DevFault>
+        requires job { self.old.job ≡ Body }
+        requires fit { IsFit (D.state dev.old) self.old }
+        ensures fit { IsFit (D.state dev.new) self.new }
+        ensures live { KernelLaws → (o : World) → HasRun o (D.state dev.old) self.old → Told (D.state dev.old) (IsLive o self.old) → Told (D.state dev.new) (IsLive o self.new) }
+        ensures run { (o : World) → HasRun o (D.state dev.old) self.old → HasRun o (D.state dev.new) self.new }
+        ensures same { self.new ≡ record self.old { log = self.new.log; job = self.new.job } }
+        ensures broken { OnErr result (self.new.job ≡ Broken) }
+        ensures cause { HasCause (D.state dev.old).write_faults (D.state dev.new).write_faults result }
+    {
+        // The proof wants to know what every log is.
+        let _head = self.log.head();
+        self.job = Job::Broken;
+        let out = self.log.put_next(dev)?;
+        self.job = if out { Job::BodyOut } else { Job::Body };
+        Ok(())
+    }
+
+    /// Passes the barrier behind the closing batch's log sectors.
+    pub fn pass_body<D: BlockDev>(&mut self, dev: &mut D) -> Result<(), DevFault>
+        requires job { self.old.job ≡ BodyOut }
+        requires fit { IsFit (D.state dev.old) self.old }
+        ensures fit { IsFit (D.state dev.new) self.new }
+        ensures live { KernelLaws → (o : World) → HasRun o (D.state dev.old) self.old → Told (D.state dev.old) (IsLive o self.old) → Told (D.state dev.new) (IsLive o self.new) }
+        ensures run { (o : World) → HasRun o (D.state dev.old) self.old → HasRun o (D.state dev.new) self.new }
+        ensures same { self.new ≡ record self.old { job = self.new.job } }
+        ensures broken { OnErr result (self.new.job ≡ Broken) }
+        ensures cause { HasCause (D.state dev.old).write_faults (D.state dev.new).write_faults result }
+    {
+        // The proof wants to know what every log is.
+        let _head = self.log.head();
+        self.job = Job::Broken;
+        dev.barrier()?;
+        self.job = Job::Head;
+        Ok(())
+    }
+
+    /// Writes the head sector with the closing batch, whose sectors are noted.
+    pub fn open_gate<D: BlockDev>(&mut self, dev: &mut D) -> Result<(), DevFault>
+        requires job { self.old.job ≡ Head }
+        requires fit { IsFit (D.state dev.old) self.old }
+        ensures fit { IsFit (D.state dev.new) self.new }
+        ensures live { KernelLaws → (o : World) → HasRun o (D.state dev.old) self.old → Told (D.state dev.old) (IsLive o self.old) → Told (D.state dev.new) (IsLive o self.new) }
+        ensures run { (o : World) → HasRun o (D.state dev.old) self.old → HasRun o (D.state dev.new) self.new }
+        ensures same { self.new ≡ record self.old { log = self.new.log; homes = self.new.homes; ready = self.new.ready; job = self.new.job } }
+        ensures broken { OnErr result (self.new.job ≡ Broken) }
+        ensures cause { HasCause (D.state dev.old).write_faults (D.state dev.new).write_faults result }
+    {
+        // The proof rests on these laws; nothing runs here.
+        note_laws();
+        let _head = self.log.head();
+        self.job = Job::Broken;
+        let Some(batch) = self.log.closing() else {
+            unreachable!()
+        };
+        self.homes.note_all(batch.entries());
+        self.log.open_gate(dev)?;
+        self.ready = self.log.take_back();
+        self.job = Job::HeadOut;
+        Ok(())
+    }
+
+    /// Passes the barrier behind the head sector: the closing state is the committed one.
+    pub fn pass_head<D: BlockDev>(&mut self, dev: &mut D) -> Result<(), DevFault>
+        requires job { self.old.job ≡ HeadOut }
+        requires fit { IsFit (D.state dev.old) self.old }
+        ensures fit { IsFit (D.state dev.new) self.new }
+        ensures live { KernelLaws → (o : World) → HasRun o (D.state dev.old) self.old → Told (D.state dev.old) (IsLive o self.old) → Told (D.state dev.new) (IsLive o self.new) }
+        ensures run { (o : World) → HasRun o (D.state dev.old) self.old → HasRun o (D.state dev.new) self.new }
+        ensures same { OnOk result (self.new ≡ record self.old { job = Idle; committed = self.old.closing }) }
+        ensures broken { OnErr result (self.new ≡ record self.old { job = Broken }) }
+        ensures cause { HasCause (D.state dev.old).write_faults (D.state dev.new).write_faults result }
+    {
+        self.job = Job::Broken;
+        dev.barrier()?;
+        self.job = Job::Idle;
+        self.committed = self.closing;
+        Ok(())
+    }
+
+    /// Writes up to eight noted sectors home.
+    pub fn put_homes<D: BlockDev>(&mut self, dev: &mut D, put: u32) -> Result<(), DevFault>
+        requires job { self.old.job ≡ HomesJob put }
+        requires fit { IsFit (D.state dev.old) self.old }
+        ensures fit { IsFit (D.state dev.new) self.new }
+        ensures live { KernelLaws → (o : World) → HasRun o (D.state dev.old) self.old → Told (D.state dev.old) (IsLive o self.old) → Told (D.state dev.new) (IsLive o self.new) }
+        ensures run { (o : World) → HasRun o (D.state dev.old) self.old → HasRun o (D.state dev.new) self.new }
+        ensures same { self.new ≡ record self.old { job = self.new.job } }
+        ensures broken { OnErr result (self.new.job ≡ Broken) }
+        ensures cause { HasCause (D.state dev.old).write_faults (D.state dev.new).write_faults result }
+    {
+        self.job = Job::Broken;
+        let end = self.homes.put_some(dev, put)?;
+        self.job = if end == self.homes.len() {
+            Job::HomesOut
+        } else {
+            Job::Homes { put: end }
+        };
+        Ok(())
+    }
+
+    /// Passes the barrier behind the homes.
+    pub fn pass_homes<D: BlockDev>(&mut self, dev: &mut D) -> Result<(), DevFault>
+        requires job { self.old.job ≡ HomesOut }
+        requires fit { IsFit (D.state dev.old) self.old }
+        ensures fit { IsFit (D.state dev.new) self.new }
+        ensures live { KernelLaws → (o : World) → HasRun o (D.state dev.old) self.old → Told (D.state dev.old) (IsLive o self.old) → Told (D.state dev.new) (IsLive o self.new) }
+        ensures run { (o : World) → HasRun o (D.state dev.old) self.old → HasRun o (D.state dev.new) self.new }
+        ensures same { self.new ≡ record self.old { job = self.new.job } }
+        ensures broken { OnErr result (self.new.job ≡ Broken) }
+        ensures cause { HasCause (D.state dev.old).write_faults (D.state dev.new).write_faults result }
+    {
+        self.job = Job::Broken;
+        dev.barrier()?;
+        self.job = Job::Tail;
+        Ok(())
+    }
+
+    /// Writes the head sector with the tail at the head; all that is noted is home.
+    pub fn put_tail<D: BlockDev>(&mut self, dev: &mut D) -> Result<(), DevFault>
+        requires job { self.old.job ≡ Tail }
+        requires fit { IsFit (D.state dev.old) self.old }
+        ensures fit { IsFit (D.state dev.new) self.new }
+        ensures live { KernelLaws → (o : World) → HasRun o (D.state dev.old) self.old → Told (D.state dev.old) (IsLive o self.old) → Told (D.state dev.new) (IsLive o self.new) }
+        ensures run { (o : World) → HasRun o (D.state dev.old) self.old → HasRun o (D.state dev.new) self.new }
+        ensures same { self.new ≡ record self.old { log = self.new.log; homes = self.new.homes; job = self.new.job } }
+        ensures broken { OnErr result (self.new.job ≡ Broken) }
+        ensures cause { HasCause (D.state dev.old).write_faults (D.state dev.new).write_faults result }
+    {
+        self.job = Job::Broken;
+        let head = self.log.head();
+        self.log.advance_tail(dev, head)?;
+        self.homes.clear();
+        self.job = Job::TailOut;
+        Ok(())
+    }
+
+    /// Writes the head sector with both positions at 0; all that is noted is home.
+    pub fn put_restart<D: BlockDev>(&mut self, dev: &mut D) -> Result<(), DevFault>
+        requires job { self.old.job ≡ Tail }
+        requires fit { IsFit (D.state dev.old) self.old }
+        ensures fit { IsFit (D.state dev.new) self.new }
+        ensures live { KernelLaws → (o : World) → HasRun o (D.state dev.old) self.old → Told (D.state dev.old) (IsLive o self.old) → Told (D.state dev.new) (IsLive o self.new) }
+        ensures run { (o : World) → HasRun o (D.state dev.old) self.old → HasRun o (D.state dev.new) self.new }
+        ensures same { self.new ≡ record self.old { log = self.new.log; homes = self.new.homes; job = self.new.job } }
+        ensures broken { OnErr result (self.new.job ≡ Broken) }
+        ensures cause { HasCause (D.state dev.old).write_faults (D.state dev.new).write_faults result }
+    {
+        self.job = Job::Broken;
+        self.log.restart(dev)?;
+        self.homes.clear();
+        self.job = Job::TailOut;
+        Ok(())
+    }
+
+    /// Passes the barrier behind the tail: the log is empty.
+    pub fn pass_tail<D: BlockDev>(&mut self, dev: &mut D) -> Result<(), DevFault>
+        requires job { self.old.job ≡ TailOut }
+        requires fit { IsFit (D.state dev.old) self.old }
+        ensures fit { IsFit (D.state dev.new) self.new }
+        ensures live { KernelLaws → (o : World) → HasRun o (D.state dev.old) self.old → Told (D.state dev.old) (IsLive o self.old) → Told (D.state dev.new) (IsLive o self.new) }
+        ensures run { (o : World) → HasRun o (D.state dev.old) self.old → HasRun o (D.state dev.new) self.new }
+        ensures same { self.new ≡ record self.old { job = self.new.job } }
+        ensures broken { OnErr result (self.new.job ≡ Broken) }
+        ensures cause { HasCause (D.state dev.old).write_faults (D.state dev.new).write_faults result }
+    {
+        self.job = Job::Broken;
+        dev.barrier()?;
+        self.job = Job::Idle;
+        Ok(())
+    }
+
+    /// Begins to leave the file system: the log is empty, and all that has come is committed.
+    pub fn leave(&mut self)
+        requires job { self.old.job ≡ Idle }
+        requires fit { IsFitAlone self.old }
+        requires all { self.old.committed ≡ length self.old.history.items }
+        requires none { self.old.gathered ≡ [] }
+        requires home { self.old.homes ≡ [] }
+        requires empty { self.old.log.tail ≡ self.old.log.head }
+        ensures fit { IsFitAlone self.new }
+        ensures run { (o : World) (d : Device) → HasRun o d self.old → HasRun o d self.new }
+        ensures live { KernelLaws → (o : World) (d : Device) → HasRun o d self.old → Told d (IsLive o self.old) → Told d (IsLive o self.new) }
+        ensures same { self.new ≡ record self.old { job = Leave } }
+    {
+        self.job = Job::Leave;
+    }
+
+    /// Writes the superblock of a clean file system.
+    pub fn put_leave<D: BlockDev>(&mut self, dev: &mut D) -> Result<(), DevFault>
+        requires job { self.old.job ≡ Leave }
+        requires fit { IsFit (D.state dev.old) self.old }
+        ensures fit { IsFit (D.state dev.new) self.new }
+        ensures live { KernelLaws → (o : World) → HasRun o (D.state dev.old) self.old → Told (D.state dev.old) (IsLive o self.old) → Told (D.state dev.new) (IsLive o self.new) }
+        ensures run { (o : World) → HasRun o (D.state dev.old) self.old → HasRun o (D.state dev.new) self.new }
+        ensures same { self.new ≡ record self.old { job = self.new.job } }
+        ensures broken { OnErr result (self.new.job ≡ Broken) }
+        ensures cause { HasCause (D.state dev.old).write_faults (D.state dev.new).write_faults result }
+    {
+        self.job = Job::Broken;
+        let superblock = Super {
+            log_blocks: self.sizes.log_blocks,
+            units: self.sizes.units,
+            clean: true,
+        };
+        dev.write(SUPER_SECTOR, &superblock.write())?;
+        self.job = Job::LeaveOut;
+        Ok(())
+    }
+
+    /// Passes the barrier behind that superblock, and notes that the file system is unmounted. A crash then leaves one image, which is
+    /// clean and reads as the final tree.
+    pub fn finish<D: BlockDev>(&mut self, dev: &mut D) -> Result<(), DevFault>
+        requires job { self.old.job ≡ LeaveOut }
+        requires fit { IsFit (D.state dev.old) self.old }
+        requires room { vec_len self.old.history < vec_capacity self.old.history }
+        ensures fit { IsFit (D.state dev.new) self.new }
+        ensures run { (o : World) → HasRun o (D.state dev.old) self.old → IsOver o self.old → HasRun o (D.state dev.new) self.new }
+        ensures live { KernelLaws → (o : World) → HasRun o (D.state dev.old) self.old → IsOver o self.old → Told (D.state dev.old) (IsLive o self.old) → Told (D.state dev.new) (IsLive o self.new) }
+        ensures left { OnOk result (KernelLaws → (o : World) → HasRun o (D.state dev.old) self.old → IsOver o self.old → Told (D.state dev.old) (IsLive o self.old) → Told (D.state dev.new) (IsLeft (present o self.old).layout.device_sectors (present o self.old).tree)) }
+        ensures items { OnOk result (self.new.history.items ≡ self.old.history.items ++ event.Unmounted (D.state dev.new).count ∷ []) }
+        ensures job { OnOk result (self.new.job ≡ Left) }
+        ensures broken { OnErr result (self.new ≡ record self.old { job = Broken }) }
+        ensures cause { HasCause (D.state dev.old).write_faults (D.state dev.new).write_faults result }
+    {
+        self.job = Job::Broken;
+        dev.barrier()?;
+        let at = dev.ops();
+        self.history.push_reserved(Event::Unmounted { at });
+        self.committed = self.history.len() as u64;
+        self.closing = self.committed;
+        self.job = Job::Left;
+        Ok(())
+    }
+
+    /// Begins to write the batch that calls have joined. Calls join the next one from now on.
+    pub fn close(&mut self)
+        requires job { self.old.job ≡ Idle }
+        requires fit { IsFitAlone self.old }
+        requires some { 0 < length self.old.gathered }
+        requires room { self.old.log.head + log_length (length self.old.gathered) ≤ self.old.log.tail + self.old.log.sectors }
+        requires limit { self.old.log.head + log_length (length self.old.gathered) ≤ 2 ^ 62 }
+        ensures fit { IsFitAlone self.new }
+        ensures log { self.new.log ≡ closed self.old.log self.old.gathered }
+        ensures gathered { self.new.gathered ≡ [] }
+        ensures job { self.new.job ≡ Body }
+        ensures closing { self.new.closing ≡ length self.old.history.items }
+        ensures run { (o : World) (d : Device) → HasRun o d self.old → HasRun o d self.new }
+        ensures live { (o : World) (d : Device) → HasRun o d self.old → Told d (IsLive o self.old) → Told d (IsLive o self.new) }
+        ensures same { self.new ≡ record self.old { log = self.new.log; gathered = []; ready = self.new.ready; job = Body; closing = self.new.closing } }
+    {
+        let empty = match self.ready.take() {
+            Some(batch) => batch,
+            None => unreachable!(),
+        };
+        let batch = mem::replace(&mut self.gathered, empty);
+        self.log.close_batch(batch);
+        self.closing = self.history.len() as u64;
+        self.job = Job::Body;
+    }
+
+    /// Nothing is open, so all that has come is committed.
+    pub fn raise(&mut self)
+        requires job { self.old.job ≡ Idle }
+        requires fit { IsFitAlone self.old }
+        requires none { self.old.gathered ≡ [] }
+        ensures fit { IsFitAlone self.new }
+        ensures committed { self.new.committed ≡ length self.old.history.items }
+        ensures run { (o : World) (d : Device) → HasRun o d self.old → HasRun o d self.new }
+        ensures live { KernelLaws → (o : World) (d : Device) → HasRun o d self.old → Told d (IsLive o self.old) → Told d (IsLive o self.new) }
+        ensures same { self.new ≡ record self.old { committed = self.new.committed; closing = self.new.committed } }
+    {
+        self.committed = self.history.len() as u64;
+        self.closing = self.committed;
+    }
+
+    /// Notes an event that changes no metadata, as the answer of a call that is durable as far as it is to be, or refused.
+    pub fn note(&mut self, event: Event)
+        requires room { vec_len self.old.history < vec_capacity self.old.history }
+        ensures items { self.new.history.items ≡ self.old.history.items ++ event ∷ [] }
+        ensures run { (o : World) (d : Device) → HasRun o d self.old → IsGrowth o d self.old event → HasRun o d self.new }
+        ensures live { (o : World) (d : Device) → HasRun o d self.old → IsGrowth o d self.old event → FreesNone o self.old event → IsInStep d → next_state o self.old event ≡ present o self.old → (self.old.job ≡ Broken → IsQuiet d.count event)
+            → Told d (IsLive o self.old) → Told d (IsLive o self.new) }
+        ensures same { self.new ≡ record self.old { history = self.new.history } }
+    {
+        self.history.push_reserved(event);
+    }
+
+    /// Frees the blocks that were given up before the committed state, once the log is empty, and notes it.
+    pub fn release(&mut self, at: u64)
+        requires job { self.old.job ≡ Idle }
+        requires empty { self.old.homes ≡ [] }
+        requires level { self.old.closing ≡ self.old.committed }
+        requires room { vec_len self.old.history < vec_capacity self.old.history }
+        ensures items { self.new.history.items ≡ self.old.history.items ++ event.Release at self.old.committed ∷ [] }
+        ensures run { (o : World) (d : Device) → HasRun o d self.old → IsGrowth o d self.old (event.Release at self.old.committed) → HasRun o d self.new }
+        ensures live { KernelLaws → (o : World) (d : Device) → IsSuper self.old.sizes → HasRun o d self.old → IsGrowth o d self.old (event.Release at self.old.committed) → IsInStep d → Told d (IsLive o self.old) → Told d (IsLive o self.new) }
+        ensures same { self.new ≡ record self.old { history = self.new.history } }
+    {
+        let upto = self.committed;
+        self.history.push_reserved(Event::Release { at, upto });
+    }
+
+    /// Notes a Do, and puts the sectors that it changes into the batch that calls join. Nothing is done on the device.
+    pub fn act(&mut self, event: Event, transaction: &Batch)
+        requires room { vec_len self.old.history < vec_capacity self.old.history }
+        requires fits { length self.old.gathered + length transaction.now ≤ 400 }
+        ensures items { self.new.history.items ≡ self.old.history.items ++ event ∷ [] }
+        ensures gathered { self.new.gathered ≡ with_notes self.old.gathered transaction.now }
+        ensures run { (o : World) (d : Device) → HasRun o d self.old → IsGrowth o d self.old event → HasRun o d self.new }
+        ensures live { NoteLaws → (o : World) (d : Device) → HasRun o d self.old → IsGrowth o d self.old event → FreesNone o self.old event → IsInStep d
+            → Leads (volume_of self.old.sizes) (parsed_of (present o self.old)) (parsed_of (next_state o self.old event)) transaction.now
+            → AreYoung (next_state o self.old event) self.old.closing transaction.now → (self.old.job ≡ Broken → IsQuiet d.count event)
+            → Told d (IsLive o self.old) → Told d (IsLive o self.new) }
+        ensures same { self.new ≡ record self.old { gathered = self.new.gathered; history = self.new.history } }
+    {
+        let _count = transaction.len();
+        join(&mut self.gathered, transaction.entries());
+        self.history.push_reserved(event);
+    }
+}
+
+/// Puts one after-image after another.
+fn join(batch: &mut Batch, transaction: &[AfterImage])
+    requires { length batch.old + length transaction.now ≤ 400 }
+    ensures { batch.new ≡ with_notes batch.old transaction.now }
+{
+    // The proof rests on this law; nothing runs here.
+    note_laws();
+    for entry in transaction {
+        batch.set(entry.0, &entry.1);
+    }
+}

@@ -1,0 +1,42 @@
+//! Laws that the stages rest on.
+ghost use Rattle.vx_stage.specs.DoLaws.{DoLaws};
+ghost use Rattle.vx_stage.specs.KernelLaws.{KernelLaws};
+ghost use Rattle.vx_stage.specs.MergeLaws.{MergeLaws};
+
+use vx_dev::tape_laws;
+use vx_layout::super_places;
+use vx_log::{batch_laws, body_laws, head_laws, home_laws, image_laws, note_laws};
+use vx_model::allowed::allowed_laws;
+use vx_model::edits::edit_laws;
+use vx_model::images::{log_says, metadata, sector_contents};
+use vx_model::states::state_reads;
+
+/// Batches join, and what the log says with one.
+pub fn merge_laws()
+    ensures { MergeLaws }
+{}
+
+/// The laws of the tape, of the log and of images, as the stages use them.
+pub fn kernel_laws()
+    ensures { KernelLaws }
+{
+    tape_laws();
+    super_places();
+    batch_laws();
+    body_laws();
+    head_laws();
+    home_laws();
+    image_laws();
+    log_says();
+    metadata();
+    sector_contents();
+    note_laws();
+    state_reads();
+    edit_laws();
+    allowed_laws();
+}
+
+/// What a Do gives to the memory turn.
+pub fn do_laws()
+    ensures { DoLaws }
+{}
