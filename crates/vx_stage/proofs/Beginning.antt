@@ -1,6 +1,8 @@
 -- A mount begins: an empty log, and an empty history.
 use Rattle.std.proofs.Common.{◌≡◌, ℕ, zero, suc, ◌+◌, ◌<◌, ◌≤◌, ◌^◌, Bool, true, false, cond, List, [], length, Option, Some, None, refl, sym, ap, subst, ◌∙◌, arith, inl, inr}
 use Rattle.std.specs.Prelude.{◌||◌, ◌==◌, is_some, IfSome, IsTrue, option_map, All, slice_get}
+use Rattle.std.specs.FinMap as map
+use Rattle.std.specs.Ordering.{nat_cmp}
 use Rattle.std.proofs.lemmas.Bool.{eqb-true, ne_eqb}
 use Rattle.std.proofs.lemmas.List.Elements.{All-nil}
 use Rattle.vx_base.specs.declared.event.Event.{Event}
@@ -21,7 +23,7 @@ use Rattle.vx_model.specs.AllowedLaws.{IsPlaced}
 use Rattle.vx_model.specs.Contents.{parsed_of}
 use Rattle.vx_model.specs.Images.{is_metadata, contents, content_at}
 use Rattle.vx_model.specs.Layout.{Claim, claim_of, is_free}
-use Rattle.vx_model.specs.Legal.{World, Legal, opening, at_of, after_all}
+use Rattle.vx_model.specs.Legal.{World, Waiting, Legal, opening, at_of, after_all}
 use Rattle.vx_model.specs.Replays.{ReplaysAs}
 use Rattle.vx_model.specs.State.{State}
 use Rattle.vx_model.specs.Waiting.{is_claimed}
@@ -72,6 +74,7 @@ module _ (k : Kernel) (s : State) (empty : k.history.items ≡ []) (committed : 
     at = on_empty (λ es. (after_all o es).at ≤ d.count) later;
     come = on_empty (All (λ x. at_of x ≤ d.count)) (All-nil (λ x. at_of x ≤ d.count));
     placed = on_empty (λ es. All (IsPlaced (length es)) es) (All-nil (IsPlaced 0));
+    waiting = λ place v is. absurd (on_empty (λ es. map.get (after_all o es).waiting place ≡ Some v → ⊥) (λ h. let wrong : ◌≡◌ {A = Option Waiting} None (Some v) = sym (map.get-empty nat_cmp place) ∙ h in cc) is);
     order = omega (arith, committed, closing);
     within = omega (arith, closing);
     durable = λ m. on_empty (λ es. HoldsFront k.logging es m k.committed) (record {

@@ -38,6 +38,7 @@ run_with o d e k run later log homes gathered ready job i j low order within = r
   at = omega (arith, run.at, later);
   come = All-weaker (λ x. at_of x ≤ d.count) (λ x. at_of x ≤ e.count) (λ x at. omega (arith, at, later)) k.history.items run.come;
   placed = run.placed;
+  waiting = run.waiting;
   order = order;
   within = within;
   durable = λ m. front_on o d k run i m low;

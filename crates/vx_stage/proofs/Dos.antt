@@ -1,11 +1,17 @@
 -- A Do frees no block: what it gives up waits for it.
-use Rattle.std.proofs.Common.{◌≡◌, ◌⊎◌, ℕ, zero, suc, ◌+◌, ◌*◌, ◌≤◌, Bool, true, false, cond, List, length, Option, Some, None, refl, sym, ap, subst, ◌∙◌, arith, inl, inr}
+use Rattle.std.proofs.Common.{◌≡◌, ◌⊎◌, ℕ, zero, suc, ◌+◌, ◌*◌, ◌<◌, ◌≤◌, Bool, true, false, cond, List, length, Option, Some, None, refl, sym, ap, subst, ◌∙◌, arith, inl, inr}
 use Rattle.std.specs.Prelude.{IfSome, IsTrue, is_some, option_map, nat_lt}
 use Rattle.std.proofs.lemmas.Bool.{le-ltb}
 use Rattle.vx_base.specs.declared.call.Call.{Call}
 use Rattle.vx_base.specs.declared.event.Event.TheVariants as event
 use Rattle.vx_base.specs.declared.inode.DirEntry.{DirEntry}
+use Rattle.vx_base.specs.declared.refusal.Refusal.{Refusal}
+use Rattle.vx_base.specs.declared.refusal.Refusal.TheVariants as no
 use Rattle.vx_base.specs.declared.reply.Reply.{Reply}
+use Rattle.vx_base.specs.declared.reply.Reply.TheVariants as say
+use Rattle.std.specs.FinMap as map
+use Rattle.vx_layout.specs.declared.superblock.Super.{Super}
+use Rattle.vx_stage.specs.declared.kernel.Job.TheVariants.{Broken}
 use Rattle.vx_dev.specs.Tape.{State as Device}
 use Rattle.vx_layout.specs.Dirs.{dir_bytes}
 use Rattle.vx_layout.specs.LogForms.{AfterImage}
@@ -15,10 +21,13 @@ use Rattle.vx_model.specs.Contents.{parsed_of}
 use Rattle.vx_model.specs.Images.{IsBatch}
 use Rattle.vx_model.specs.Layout.{Layout, Claim, claim_of, claim_below, claim_among, or_claim, blocks_at, released, kept_pending}
 use Rattle.vx_model.specs.LaidOut.{IsLaidOut}
-use Rattle.vx_model.specs.Legal.{World, Allowed, after_all, with_released}
-use Rattle.vx_model.specs.State.{State}
-use Rattle.vx_model.specs.Waiting.{Waits}
-use Rattle.vx_stage.specs.Growths.{next_state, IsGrowth}
+use Rattle.vx_model.specs.AllowedLaws.{IsQuiet}
+use Rattle.vx_model.specs.EditLaws.{EditLaws}
+use Rattle.vx_model.specs.Legal.{World, Waiting, DoAllowed, RetAllowed, IfThere, is_any_time, is_fault, is_no_space, after_all, state_after_step}
+use Rattle.vx_model.specs.Step.{step}
+use Rattle.vx_model.specs.State.{State, Done}
+use Rattle.vx_model.specs.Waiting.{Waits, WaitingLaws}
+use Rattle.vx_stage.specs.Growths.{called_state, IsGrowth, FreesNone, MayDo, MayRefuse, MayAnswer}
 use Rattle.vx_stage.specs.KernelLaws.{KernelLaws}
 use Rattle.vx_stage.specs.Kernels.{IsMounted, HasRun, present}
 use Rattle.vx_stage.specs.Leads.{IsYoung, AreYoung}
@@ -42,18 +51,94 @@ young_on here place b s new le waits young = elim young [
   ]
 ]
 
-pub do_grows : (o : World) (d : Device) (k : Kernel) (session line : ℕ) (call : Call) (reply : Reply) → Allowed (after_all o k.history.items) (event.Do d.count session line call reply)
-    → IsMounted k.sizes (next_state o k (event.Do d.count session line call reply)) → Waits (length k.history.items) (present o k) (next_state o k (event.Do d.count session line call reply))
-    → IsGrowth o d k (event.Do d.count session line call reply)
-do_grows o d k session line call reply allowed mounted waits = record {
-  allowed = allowed;
-  at = refl;
-  placed = tt;
-  earned = tt;
-  mounted = mounted;
-  pending = λ b p is. waits_on (length k.history.items) p _ _ (waits.pending b) is;
-  young = λ place b from inside young. young_on (length k.history.items) place b (present o k) (next_state o k (event.Do d.count session line call reply)) inside waits young;
+-- a call leaves what it gives up waiting, and a refused one leaves all as it was
+same_waits : (place : ℕ) (s : State) → Waits place s s
+same_waits place s = record { same_volume = refl; same_device = refl; claimed = λ b there. inl there; pending = λ b. inl refl }
+
+pub call_waits : WaitingLaws → (o : World) (d : Device) (k : Kernel) (session line : ℕ) (call : Call) (reply : Reply) → HasRun o d k → DoAllowed (after_all o k.history.items) session line call reply
+    → Waits (length k.history.items) (present o k) (called_state o k session call reply)
+call_waits laws o d k session line call reply run allowed = subst (λ (place : ℕ). Waits place s (called_state o k session call reply)) run.next (by_cases (is_fault reply) (step s n session call) refl allowed.reply_is)
+  where
+    s : State
+    s = present o k
+
+    n : ℕ
+    n = (after_all o k.history.items).next
+
+    by_cases : (b : Bool) (x : Option Done) → step s n session call ≡ x → IfThere x (λ done. (reply ≡ done.reply) ⊎ (is_fault reply ≡ true)) → Waits n s (cond b s (state_after_step s x))
+    by_cases true x is there = same_waits n s
+    by_cases false None is there = absurd there
+    by_cases false (Some done) is there = laws.step s n session call done is
+
+mounted_on : (v : Super) (s new : State) (place : ℕ) → IsMounted v s → IsLaidOut new → Waits place s new → IsMounted v new
+mounted_on v s new place is laid_out waits = record {
+  laid_out = laid_out;
+  log_blocks = omega (arith, ap (λ (w : Volume). w.first) waits.same_volume, is.log_blocks);
+  units = ap (λ (w : Volume). w.units) waits.same_volume ∙ is.units;
 }
+
+module _ (laws : WaitingLaws) (o : World) (d : Device) (k : Kernel) (at session line : ℕ) (call : Call) (reply : Reply) (at_is : at ≡ d.count) (run : HasRun o d k) (may : MayDo o k session line call reply) where
+  waits : Waits (length k.history.items) (present o k) (called_state o k session call reply)
+  waits = call_waits laws o d k session line call reply run may.allowed
+
+  pub do_grows : IsGrowth o d k (event.Do at session line call reply)
+  do_grows = record {
+    allowed = record { later = omega (arith, run.at, at_is); mounted = may.mounted; comes = may.allowed };
+    at = at_is;
+    placed = tt;
+    earned = tt;
+    mounted = mounted_on k.sizes (present o k) (called_state o k session call reply) (length k.history.items) run.mounted_now may.laid_out waits;
+    pending = λ b p is. waits_on (length k.history.items) p _ _ (waits.pending b) is;
+    young = λ place b from inside young. young_on (length k.history.items) place b (present o k) (called_state o k session call reply) inside waits young;
+  }
+
+  pub do_frees : FreesNone o k (event.Do at session line call reply)
+  do_frees b free = laws.free (present o k) (called_state o k session call reply) (length k.history.items) b waits free
+
+-- ---- a refusal
+
+not_space : (why : Refusal) → is_any_time why ≡ true → is_no_space (say.Refused why) ≡ true → ⊥
+not_space (no.NoSpace need free) any_time short = absurd cc
+not_space _ any_time short = absurd cc
+
+pub refused_state : (o : World) (k : Kernel) (session : ℕ) (call : Call) (why : Refusal) → is_any_time why ≡ true → called_state o k session call (say.Refused why) ≡ present o k
+refused_state o k session call why any_time = ap (λ (b : Bool). cond b (present o k) (state_after_step (present o k) (step (present o k) (after_all o k.history.items).next session call))) any_time
+
+pub refused_may : (o : World) (d : Device) (k : Kernel) (session line : ℕ) (call : Call) (why : Refusal) → HasRun o d k → MayRefuse o k session call why → MayDo o k session line call (say.Refused why)
+refused_may o d k session line call why run may = record {
+  mounted = may.mounted;
+  allowed = record {
+    idle = may.idle;
+    reply_is = there (step (present o k) (after_all o k.history.items).next session call) may.built;
+    all_released = λ short b. absurd (not_space why may.any_time short);
+  };
+  laid_out = subst IsLaidOut (sym (refused_state o k session call why may.any_time)) run.mounted_now.laid_out;
+}
+  where
+    there : (x : Option Done) → IfThere x (λ _. Unit {0}) → IfThere x (λ done. (say.Refused why ≡ done.reply) ⊎ (is_fault (say.Refused why) ≡ true))
+    there None is = absurd is
+    there (Some done) is = inr may.any_time
+
+-- ---- an answer
+
+module _ (o : World) (d : Device) (k : Kernel) (at place : ℕ) (answer : Reply) (at_is : at ≡ d.count) (run : HasRun o d k) (may : MayAnswer o k place answer) where
+  here : (x : Option Waiting) → map.get (after_all o k.history.items).waiting place ≡ x → RetAllowed x answer → place < length k.history.items
+  here None is allowed = absurd allowed
+  here (Some v) is allowed = run.waiting place v is
+
+  pub answer_grows : IsGrowth o d k (event.Ret at place answer)
+  answer_grows = record {
+    allowed = record { later = omega (arith, run.at, at_is); mounted = may.mounted; comes = may.allowed };
+    at = at_is;
+    placed = here (map.get (after_all o k.history.items).waiting place) refl may.allowed;
+    earned = may.earned;
+    mounted = run.mounted_now;
+    pending = λ b p is. inl is;
+    young = λ place_ b from inside young. young;
+  }
+
+  pub answer_quiet : k.job ≡ Broken → IsQuiet d.count (event.Ret at place answer)
+  answer_quiet broken = inr (may.refused broken)
 
 claim_some : {A B : Type 0} (f : A → B) (x : Option A) (y : B) → option_map f x ≡ Some y → is_some x ≡ true
 claim_some f None y h = absurd cc
@@ -92,14 +177,13 @@ unfolding claim_below
 same_claims l upto b zero = refl
 same_claims l upto b (suc n) = ap (or_claim (claim_among n b (blocks_at l n))) (same_claims l upto b n)
 
-pub release_grows : (o : World) (d : Device) (k : Kernel) → HasRun o d k → Allowed (after_all o k.history.items) (event.Release d.count k.committed) → IsLaidOut (with_released (present o k) k.committed)
-    → IsGrowth o d k (event.Release d.count k.committed)
-release_grows o d k run allowed laid = record {
-  allowed = allowed;
-  at = refl;
+pub release_grows : EditLaws → (o : World) (d : Device) (k : Kernel) (at : ℕ) → at ≡ d.count → HasRun o d k → (after_all o k.history.items).unmounted ≡ false → IsGrowth o d k (event.Release at k.committed)
+release_grows edits o d k at at_is run mounted = record {
+  allowed = record { later = omega (arith, run.at, at_is); mounted = mounted; comes = tt };
+  at = at_is;
   placed = tt;
   earned = tt;
-  mounted = record { laid_out = laid; log_blocks = run.mounted_now.log_blocks; units = run.mounted_now.units };
+  mounted = record { laid_out = edits.released (present o k) k.committed run.mounted_now.laid_out; log_blocks = run.mounted_now.log_blocks; units = run.mounted_now.units };
   pending = λ b p is. inl (kept_some k.committed p ((present o k).layout.pending b) is);
   young = λ place b from inside young. elim young [
     | inl claimed ↦ inl (ap is_some (same_claims (present o k).layout k.committed b (128 * (present o k).layout.units)) ∙ claimed)

@@ -7,8 +7,10 @@ use Rattle.vx_log.specs.Logs.{LogView}
 use Rattle.vx_log.specs.declared.log.Closing.{Closing}
 use Rattle.vx_log.specs.Batches.{with_notes}
 use Rattle.vx_log.specs.NoteLaws.{NoteLaws}
-use Rattle.vx_stage.specs.Kernels.{log_size, device_size, IsInside, IsFew, IsFit}
-use Rattle.vx_stage.specs.declared.kernel.Job.TheVariants.{HeadOut, Broken}
+use Rattle.vx_stage.specs.Growths.{IsBusy}
+use Rattle.vx_stage.specs.Kernels.{log_size, device_size, IsInside, IsFew, JobFits, IsFit}
+use Rattle.vx_stage.specs.declared.kernel.Job.{Job}
+use Rattle.vx_stage.specs.declared.kernel.Job.TheVariants.{Idle, Body, BodyOut, Head, HeadOut, Homes, HomesOut, Tail, TailOut, Leave, LeaveOut, Left, Broken}
 use Rattle.vx_stage.specs.declared.kernel.Kernel.{Kernel}
 
 no_closing : (x : Option Closing) → x ≡ None → (P : Closing → Type 0) → IfSome x P
@@ -46,3 +48,22 @@ module _ (notes : NoteLaws) (k : Kernel) (d e : Device) (fit : IsFit d k) (size 
     batch = subst (λ (l : LogView). IfSome l.closing (λ b. All (IsInside k.sizes) b.batch)) (sym log_is) fit.batch;
     job = tt;
   }
+
+-- an event has come, and the open batch may be another
+pub fit_with : (d : Device) (k k2 : Kernel) (batch : List AfterImage) → (IsBusy k.job → ⊥) → All (IsInside k.sizes) batch → IsFit d k → IsFit d (record k { gathered = batch; history = k2.history })
+fit_with d k k2 batch free inside fit = record { sizes = fit.sizes; sectors = fit.sectors; device = fit.device; homes = fit.homes; gathered = inside; batch = fit.batch; job = on_job k.job free fit.job }
+  where
+    on_job : (j : Job) → (IsBusy j → ⊥) → JobFits j k → JobFits j (record k { gathered = batch; history = k2.history })
+    on_job Idle free is = is
+    on_job Body free is = is
+    on_job BodyOut free is = is
+    on_job Head free is = is
+    on_job HeadOut free is = is
+    on_job (Homes put) free is = is
+    on_job HomesOut free is = is
+    on_job Tail free is = is
+    on_job TailOut free is = is
+    on_job Leave free is = absurd (free tt)
+    on_job LeaveOut free is = absurd (free tt)
+    on_job Left free is = is
+    on_job Broken free is = is

@@ -1,11 +1,15 @@
 -- An event more at this moment: what was allowed at earlier moments stays so, and the fact of now goes on.
-use Rattle.std.proofs.Common.{◌≡◌, ℕ, zero, suc, ◌+◌, ◌<◌, ◌≤◌, Bool, true, false, List, [], ◌∷◌, ◌++◌, length, take, Option, Some, None, refl, sym, ap, subst, ◌∙◌, arith, inl, inr, length-append}
+use Rattle.std.proofs.Common.{◌≡◌, ℕ, zero, suc, ◌+◌, ◌<◌, ◌≤◌, Bool, true, false, cond, List, [], ◌∷◌, ◌++◌, length, take, Option, Some, None, refl, sym, ap, subst, ◌∙◌, arith, inl, inr, length-append}
 use Rattle.std.specs.Prelude.{IsTrue, IfSome, slice_get, Contains, All, nat_le, filter}
 use Rattle.std.specs.Option.{option_and_then}
-use Rattle.std.proofs.lemmas.Bool.{cases_lt}
+use Rattle.std.specs.Cmp.{nat_cmp_total}
+use Rattle.std.specs.FinMap as map
+use Rattle.std.specs.Ordering.{nat_cmp, eq_by_cmp}
+use Rattle.std.proofs.lemmas.Bool.{cases_eq, cases_lt}
 use Rattle.std.proofs.lemmas.List.{take-append-le, take_all}
 use Rattle.std.proofs.lemmas.List.Elements.{All-append, All-contains, All-weaker, All-cons, All-nil, Contains-append_cases, filter-append}
 use Rattle.std.proofs.lemmas.List.Sums.{length-filter, count_by-le-length}
+use Rattle.vx_base.proofs.Maps.{at_other}
 use Rattle.vx_base.specs.declared.call.Call.{Call}
 use Rattle.vx_base.specs.declared.event.Event.{Event}
 use Rattle.vx_base.specs.declared.event.Event.TheVariants as event
@@ -25,7 +29,7 @@ use Rattle.vx_stage.proofs.Showing.{same_volume}
 use Rattle.vx_dev.specs.Moments.{Told, Past}
 use Rattle.vx_model.specs.Allowed.{come_by, call_of, call_at, is_refusal}
 use Rattle.vx_model.specs.AllowedLaws.{IsPlaced, IsQuiet}
-use Rattle.vx_model.specs.Legal.{World, at_of, after, after_all, Legal}
+use Rattle.vx_model.specs.Legal.{World, Waiting, at_of, after, after_all, Legal}
 use Rattle.vx_model.specs.Replays.{IsLeft}
 use Rattle.vx_model.specs.Shapes.{shape}
 use Rattle.vx_model.specs.State.{State}
@@ -135,6 +139,29 @@ module _ (o : World) (d : Device) (k : Kernel) (e : Event) where
     pub past_by : at_of e ≡ d.count → (first : ℕ) (t : Tape) → length t.ops ≡ d.count → Past first (IsAllowed k.logging o had) t → Past first (IsAllowed k.logging o with_it) t
     past_by now_is first t count past m from lt image is = stays m image (quiet_at e m d.count now_is (omega (arith, lt, count))) (past m from lt image is)
 
+-- ---- calls that are not answered yet
+
+abbrev AreBefore : ℕ → World → Type 0
+AreBefore places w = (place : ℕ) (v : Waiting) → map.get w.waiting place ≡ Some v → place < places
+
+removed_was : (m : map.FinMap nat_cmp Waiting) (k q : ℕ) (v : Waiting) → map.get (map.remove m k) q ≡ Some v → map.get m q ≡ Some v
+removed_was m k q v is = by_cases (eq_by_cmp nat_cmp q k) (sym (map.get-remove nat_cmp_total m k q) ∙ is)
+  where
+    by_cases : (b : Bool) → cond b None (map.get m q) ≡ Some v → map.get m q ≡ Some v
+    by_cases true h = absurd cc
+    by_cases false h = h
+
+-- the event's own place is the last one
+pub waiting_on : (w : World) (e : Event) → AreBefore w.next w → AreBefore (w.next + 1) (after w e)
+waiting_on w (event.Do at session line c reply) before place v is = elim (cases_eq place w.next) [
+  | inl here ↦ omega (arith, here)
+  | inr other ↦ omega (arith, before place v (sym (at_other w.waiting w.next (record { session = session; line = line; reply = reply }) place other) ∙ is))
+]
+waiting_on w (event.Ret at answered answer) before place v is = omega (arith, before place v (removed_was w.waiting answered place v is))
+waiting_on w (event.Release at upto) before place v is = omega (arith, before place v is)
+waiting_on w (event.Unmounted at) before place v is = omega (arith, before place v is)
+waiting_on w _ before place v is = omega (arith, before place v is)
+
 module _ (o : World) (d : Device) (k : Kernel) (e : Event) (run : HasRun o d k) (grows : IsGrowth o d k e) where
   abbrev h : List Event
   h = k.history.items
@@ -205,6 +232,13 @@ module _ (o : World) (d : Device) (k : Kernel) (e : Event) (run : HasRun o d k) 
       come = on_items (All (λ x. at_of x ≤ d.count)) (All-append (λ x. at_of x ≤ d.count) h (e ∷ []) run.come (All-cons (λ x. at_of x ≤ d.count) e [] (omega (arith, grows.at)) (All-nil (λ x. at_of x ≤ d.count))));
       placed = on_items (λ es. All (IsPlaced (length es)) es) (All-append (IsPlaced (length longer)) h (e ∷ []) (All-weaker (IsPlaced (length h)) (IsPlaced (length longer)) placed_on h run.placed)
           (All-cons (IsPlaced (length longer)) e [] (placed_on e grows.placed) (All-nil (IsPlaced (length longer)))));
+      waiting = λ place v is. omega (
+        arith,
+        long,
+        run.next,
+        waiting_on (after_all o h) e (λ p u was. omega (arith, run.next, run.waiting p u was)) place v
+            (ap (λ (w : World). map.get w.waiting place) (sym (ap (after_all o) items ∙ after_all-append o h (e ∷ []))) ∙ is),
+      );
       order = omega (arith, run.order, committed, closing);
       within = omega (arith, run.within, closing, long);
       durable = λ m. on_items (λ es. HoldsFront k2.logging es m k2.committed) (subst (λ (x : Logging). HoldsFront x longer m k2.committed) (sym logging) (subst (λ (n : ℕ). HoldsFront k.logging longer m n) (sym committed) (front_now m)));

@@ -1,6 +1,7 @@
 -- The file system is left: the superblock of a clean one, a barrier, and the event.
 use Rattle.std.proofs.Common.{◌≡◌, ℕ, ◌+◌, ◌<◌, ◌≤◌, true, List, [], ◌∷◌, ◌++◌, length, Option, Some, None, refl, sym, ap, subst, ◌∙◌, arith, inl, inr}
 use Rattle.std.specs.Prelude.{IfSome, All}
+use Rattle.std.specs.FinMap as map
 use Rattle.std.proofs.lemmas.Bool.{cases_lt}
 use Rattle.std.proofs.lemmas.List.{take_all}
 use Rattle.std.proofs.lemmas.List.Elements.{All-append, All-contains, All-weaker, All-cons, All-nil, Contains-append_cases}
@@ -154,6 +155,7 @@ module _ (o : World) (d : Device) (k : Kernel) (run : HasRun o d k) (over : IsOv
       come = on_items (All (λ x. at_of x ≤ d.count)) (All-append (λ x. at_of x ≤ d.count) h (e ∷ []) run.come (All-cons (λ x. at_of x ≤ d.count) e [] (omega (arith, at_is)) (All-nil (λ x. at_of x ≤ d.count))));
       placed = on_items (λ es. All (IsPlaced (length es)) es) (All-append (IsPlaced (length (with_it o d k e))) h (e ∷ []) (All-weaker (IsPlaced (length h)) (IsPlaced (length (with_it o d k e))) placed_on h run.placed)
           (All-cons (IsPlaced (length (with_it o d k e))) e [] tt (All-nil (IsPlaced (length (with_it o d k e))))));
+      waiting = λ place v is. omega (arith, long, run.waiting place v (ap (λ (w : World). map.get w.waiting place) (sym (ap (after_all o) items ∙ after_all-append o h (e ∷ []))) ∙ is));
       order = omega arith;
       within = omega (arith, long, n_is);
       durable = λ m. on_items (λ es. HoldsFront k.logging es m n) (front_all m);

@@ -1,4 +1,5 @@
 -- What a staged kernel knows of its device.
+use Rattle.std.specs.FinMap as map
 use Rattle.std.specs.List.{AllByRecursion}
 use Rattle.std.specs.Prelude.{◌^◌, ◌*◌, ◌≡◌, ◌⊎◌, ◌+◌, ◌<◌, ◌≤◌, ℕ, true, false, IsTrue, IsSome, IsNone, List, [], length, take, All, Option, Some, None, IfSome}
 use Rattle.vx_dev.specs.Tape as dev
@@ -18,7 +19,7 @@ use Rattle.vx_model.specs.Contents.{parsed_of}
 use Rattle.vx_model.specs.Images.{Says, is_metadata, contents}
 use Rattle.vx_model.specs.Layout.{is_free}
 use Rattle.vx_model.specs.LaidOut.{IsLaidOut}
-use Rattle.vx_model.specs.Legal.{World, Legal, at_of, after_all}
+use Rattle.vx_model.specs.Legal.{World, Waiting, Legal, at_of, after_all}
 use Rattle.vx_model.specs.Replays.{IsLeft}
 use Rattle.vx_model.specs.State.{State}
 use Rattle.vx_model.specs.Waiting.{is_claimed}
@@ -138,6 +139,8 @@ pub record HasRun (o : World) (d : dev.State) (k : Kernel) : Type 0 where
   pub at : (after_all o k.history.items).at ≤ d.count
   pub come : All (λ e. at_of e ≤ d.count) k.history.items
   pub placed : All (IsPlaced (length k.history.items)) k.history.items
+  -- a call that is not answered yet stands in it
+  pub waiting : (place : ℕ) (v : Waiting) → map.get (after_all o k.history.items).waiting place ≡ Some v → place < length k.history.items
   -- the committed and the closing state are prefixes of it, and the first has what has returned
   pub order : k.committed ≤ k.closing
   pub within : k.closing ≤ length k.history.items

@@ -3,4 +3,4 @@ pub mod MergeLaws
 pub mod Kernels
 pub mod KernelLaws
 pub mod Growths
-pub mod DoLaws
+pub mod Staged

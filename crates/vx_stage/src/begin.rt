@@ -1,22 +1,27 @@
 //! Where a mount begins.
-ghost use Rattle.std.specs.Prelude.{◌≡◌, ◌<◌, ◌≤◌, ◌+◌, ◌^◌, ℕ, [], Some, IsNone, OnOk};
+ghost use Rattle.std.specs.Prelude.{◌≡◌, ◌<◌, ◌≤◌, ◌+◌, ◌^◌, ℕ, [], Some, IsNone, IfOk, OnOk};
+ghost use Rattle.vx_log.specs.Logs.{fresh_log};
+ghost use Rattle.vx_mkfs.specs.Formats.{format_operations};
 ghost use Rattle.vx_base.specs.Faults.{HasCause};
 ghost use Rattle.vx_dev.specs.Tape.{IsInStep, State as Device};
 ghost use Rattle.vx_layout.specs.Supers.{IsSuper};
 ghost use Rattle.vx_dev.specs.Moments.{Told, Passed};
 ghost use Rattle.vx_model.specs.Legal.{opening};
 ghost use Rattle.vx_model.specs.Replays.{ReplaysAs};
-ghost use Rattle.vx_model.specs.State.{State};
-ghost use Rattle.vx_stage.specs.Kernels.{log_size, device_size, IsFitAlone, IsMounted, IsLevel, IsBegun, HasRun, IsLive};
-ghost use Rattle.vx_stage.specs.KernelLaws.{KernelLaws};
+ghost use Rattle.vx_model.specs.State.{State, fresh_of};
+ghost use Rattle.vx_stage.specs.Kernels.{log_size, device_size, IsFit, IsFitAlone, IsMounted, IsLevel, IsBegun, HasRun, IsLive};
 ghost use Rattle.vx_stage.specs.declared.kernel.Job.TheVariants.{Idle};
 
 use crate::kernel::{Job, Kernel};
+use crate::laws::kernel_laws;
 use vx_base::{Event, Logging};
 use vx_dev::{BlockDev, DevFault};
 use vx_home::Homes;
 use vx_layout::Super;
 use vx_log::{Batch, Log};
+use vx_mkfs::make;
+use vx_model::images::metadata;
+use vx_model::states::fresh_reads;
 
 /// The sector of the superblock.
 const SUPER_SECTOR: u64 = 0;
@@ -44,9 +49,11 @@ impl Kernel {
         requires history { room.history.items ≡ [] }
         ensures fit { IsFitAlone result }
         ensures run { (s : State) (d : Device) → IsMounted sizes s → first ≤ d.count → HasRun (opening first s) d result }
-        ensures live { KernelLaws → (s : State) (d : Device) → IsMounted sizes s → first ≡ d.count → IsInStep d → Told d (IsBegun sizes s room.log.serial room.log.head) → Told d (IsLive (opening first s) result) }
+        ensures live { (s : State) (d : Device) → IsMounted sizes s → first ≡ d.count → IsInStep d → Told d (IsBegun sizes s room.log.serial room.log.head) → Told d (IsLive (opening first s) result) }
         ensures same { result ≡ record { sizes = sizes; logging = logging; first = first; log = room.log; homes = room.homes; gathered = room.gathered; ready = Some room.ready; job = Idle; committed = 0; closing = 0; history = room.history } }
     {
+        // The proof rests on these laws; nothing runs here.
+        kernel_laws();
         Kernel {
             sizes,
             logging,
@@ -68,11 +75,13 @@ impl Kernel {
 pub fn mark<D: BlockDev>(dev: &mut D, sizes: &Super) -> Result<(), DevFault>
     requires is { IsSuper sizes.now }
     requires size { device_size sizes.now ≤ (D.state dev.old).size }
-    ensures begun { KernelLaws → (s : State) (serial position : ℕ) → IsMounted sizes.now s → Told (D.state dev.old) (IsLevel sizes.now s serial position) → OnOk result (Told (D.state dev.new) (IsBegun sizes.now s serial position)) }
-    ensures passed { KernelLaws → (s : State) (serial position : ℕ) → IsMounted sizes.now s → Told (D.state dev.old) (IsLevel sizes.now s serial position) → Passed (λ image. ReplaysAs s.layout.device_sectors image s.tree) (D.state dev.old) (D.state dev.new) }
+    ensures begun { (s : State) (serial position : ℕ) → IsMounted sizes.now s → Told (D.state dev.old) (IsLevel sizes.now s serial position) → OnOk result (Told (D.state dev.new) (IsBegun sizes.now s serial position)) }
+    ensures passed { (s : State) (serial position : ℕ) → IsMounted sizes.now s → Told (D.state dev.old) (IsLevel sizes.now s serial position) → Passed (λ image. ReplaysAs s.layout.device_sectors image s.tree) (D.state dev.old) (D.state dev.new) }
     ensures size { (D.state dev.new).size ≡ (D.state dev.old).size }
     ensures cause { HasCause (D.state dev.old).write_faults (D.state dev.new).write_faults result }
 {
+    // The proof rests on these laws; nothing runs here.
+    kernel_laws();
     let superblock = Super {
         log_blocks: sizes.log_blocks,
         units: sizes.units,
@@ -83,4 +92,43 @@ pub fn mark<D: BlockDev>(dev: &mut D, sizes: &Super) -> Result<(), DevFault>
     dev.write(SUPER_SECTOR, &bytes)?;
     dev.barrier()?;
     Ok(())
+}
+
+/// Writes a new file system of these sizes and mounts it, with an empty history. Its directories have one block at most.
+///
+/// # Errors
+///
+/// A write or a barrier failed, and then the device may hold a part of it.
+pub fn new_mount<D: BlockDev>(
+    dev: &mut D,
+    sizes: Super,
+    logging: Logging,
+    room: Room,
+) -> Result<Kernel, DevFault>
+    requires is { IsSuper sizes }
+    requires size { device_size sizes ≤ (D.state dev.old).size }
+    requires log { room.log ≡ fresh_log (log_size sizes) }
+    requires homes { room.homes ≡ [] }
+    requires gathered { room.gathered ≡ [] }
+    requires ready { room.ready ≡ [] }
+    requires history { room.history.items ≡ [] }
+    ensures fit { IfOk result (IsFit (D.state dev.new)) }
+    ensures run { IfOk result (HasRun (opening (D.state dev.new).count (fresh_of sizes 1 (D.state dev.old).size)) (D.state dev.new)) }
+    ensures live { IfOk result (λ k. Told (D.state dev.new) (IsLive (opening (D.state dev.new).count (fresh_of sizes 1 (D.state dev.old).size)) k)) }
+    ensures empty { IfOk result (λ k. k.history.items ≡ []) }
+    ensures count { OnOk result ((D.state dev.new).count ≡ (D.state dev.old).count + format_operations sizes) }
+    ensures cause { HasCause (D.state dev.old).write_faults (D.state dev.new).write_faults result }
+{
+    // The proof rests on these laws; nothing runs here.
+    kernel_laws();
+    fresh_reads();
+    metadata();
+    let superblock = Super {
+        log_blocks: sizes.log_blocks,
+        units: sizes.units,
+        clean: false,
+    };
+    make(dev, &superblock)?;
+    let first = dev.ops();
+    Ok(Kernel::begin(sizes, logging, first, room))
 }

@@ -5,8 +5,7 @@ ghost use Rattle.vx_layout.specs.LogForms.{log_length};
 ghost use Rattle.vx_dev.specs.Moments.{Told};
 ghost use Rattle.vx_model.specs.Legal.{World};
 ghost use Rattle.vx_stage.specs.Kernels.{IsFitAlone, HasRun, IsLive};
-ghost use Rattle.vx_stage.specs.KernelLaws.{KernelLaws};
-ghost use Rattle.vx_stage.specs.declared.kernel.Job.TheVariants.{Idle, Body, Homes as HomesJob};
+ghost use Rattle.vx_stage.specs.declared.kernel.Job.TheVariants.{Idle, Body, Homes as HomesJob, Leave};
 
 use crate::kernel::Kernel;
 use vx_log::log_length;
@@ -32,11 +31,14 @@ impl Kernel {
         requires fit { IsFitAlone self.old }
         ensures fit { IsFitAlone self.new }
         ensures committed { result ≡ true → (self.new.job ≡ Idle) × (self.new.committed ≡ length self.old.history.items) }
+        ensures all { self.old.gathered ≡ [] → result ≡ true }
+        ensures none { result ≡ true → self.old.gathered ≡ [] }
+        ensures same { result ≡ true → self.new ≡ record self.old { committed = self.new.committed; closing = self.new.committed } }
         ensures begun { result ≡ false → (self.new.job ≡ Body) ⊎ (self.new.job ≡ HomesJob 0) }
         ensures closes { 0 < length self.old.gathered → self.old.log.tail ≡ self.old.log.head → self.old.log.head ≤ 2 ^ 61 → self.new.job ≡ Body }
         ensures history { self.new.history ≡ self.old.history }
         ensures run { (o : World) (d : Device) → HasRun o d self.old → HasRun o d self.new }
-        ensures live { KernelLaws → (o : World) (d : Device) → HasRun o d self.old → Told d (IsLive o self.old) → Told d (IsLive o self.new) }
+        ensures live { (o : World) (d : Device) → HasRun o d self.old → Told d (IsLive o self.old) → Told d (IsLive o self.new) }
     {
         let count = self.gathered.len();
         if count == 0 {
@@ -68,5 +70,49 @@ impl Kernel {
         }
         self.empty();
         false
+    }
+
+    /// Begins what has to come before blocks that wait are released: all that has come is committed, and then the log is emptied. Answers
+    /// whether nothing has to.
+    pub fn want_release(&mut self) -> bool
+        requires job { self.old.job ≡ Idle }
+        requires fit { IsFitAlone self.old }
+        ensures fit { IsFitAlone self.new }
+        ensures ready { result ≡ true → (self.new.job ≡ Idle) × (self.new.homes ≡ []) × (self.new.committed ≡ length self.old.history.items) }
+        ensures begun { result ≡ false → (self.new.job ≡ Body) ⊎ (self.new.job ≡ HomesJob 0) }
+        ensures history { self.new.history ≡ self.old.history }
+        ensures run { (o : World) (d : Device) → HasRun o d self.old → HasRun o d self.new }
+        ensures live { (o : World) (d : Device) → HasRun o d self.old → Told d (IsLive o self.old) → Told d (IsLive o self.new) }
+    {
+        if !self.want_commit() {
+            return false;
+        }
+        if self.homes.len() == 0 {
+            return true;
+        }
+        self.empty();
+        false
+    }
+
+    /// Begins what leaves the file system clean: all that has come is committed, then the log is emptied, and at last the superblock is
+    /// written.
+    pub fn want_clean(&mut self)
+        requires job { self.old.job ≡ Idle }
+        requires fit { IsFitAlone self.old }
+        ensures fit { IsFitAlone self.new }
+        ensures begun { (self.new.job ≡ Body) ⊎ ((self.new.job ≡ HomesJob 0) ⊎ (self.new.job ≡ Leave)) }
+        ensures leaves { self.old.gathered ≡ [] → self.old.log.tail ≡ self.old.log.head → self.new.job ≡ Leave }
+        ensures history { self.new.history ≡ self.old.history }
+        ensures run { (o : World) (d : Device) → HasRun o d self.old → HasRun o d self.new }
+        ensures live { (o : World) (d : Device) → HasRun o d self.old → Told d (IsLive o self.old) → Told d (IsLive o self.new) }
+    {
+        if !self.want_commit() {
+            return;
+        }
+        if self.log.tail() != self.log.head() {
+            self.empty();
+            return;
+        }
+        self.leave();
     }
 }

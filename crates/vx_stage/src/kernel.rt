@@ -1,15 +1,17 @@
 //! The log and the homes of a mount, one device stage a turn.
-ghost use Rattle.std.specs.Prelude.{◌≡◌, ◌^◌, ◌<◌, ◌≤◌, ◌++◌, ◌∷◌, [], ◌+◌, length, OnOk, OnErr, vec_len, vec_capacity};
+ghost use Rattle.std.specs.Prelude.{◌≡◌, ◌^◌, ◌<◌, ◌≤◌, ◌++◌, ◌∷◌, [], ◌+◌, length, All, OnOk, OnErr, vec_len, vec_capacity};
 ghost use Rattle.vx_base.specs.Faults.{HasCause};
 ghost use Rattle.vx_dev.specs.Tape.{IsInStep, State as Device};
-ghost use Rattle.vx_stage.specs.Growths.{IsGrowth, FreesNone, IsOver, next_state};
+ghost use Rattle.vx_stage.specs.Growths.{IsBusy, IsInUse, IsOver, MayDo, MayRefuse, MayAnswer, called_state};
 ghost use Rattle.vx_base.specs.declared.event.Event.TheVariants as event;
+ghost use Rattle.vx_base.specs.declared.reply.Reply.TheVariants as say;
+ghost use Rattle.vx_model.specs.Images.{IsBatch};
 ghost use Rattle.vx_layout.specs.LogForms.{log_length};
-ghost use Rattle.vx_log.specs.Logs.{closed};
+ghost use Rattle.vx_log.specs.Logs.{closed, advanced, restarted};
+ghost use Rattle.vx_stage.specs.Staged.{staged};
 ghost use Rattle.vx_layout.specs.Supers.{IsSuper};
 ghost use Rattle.vx_stage.specs.Leads.{Leads, AreYoung};
 ghost use Rattle.vx_log.specs.Batches.{with_notes};
-ghost use Rattle.vx_log.specs.NoteLaws.{NoteLaws};
 ghost use Rattle.vx_layout.specs.Supers.{volume_of};
 ghost use Rattle.vx_model.specs.AllowedLaws.{IsQuiet};
 ghost use Rattle.vx_model.specs.Contents.{parsed_of};
@@ -17,16 +19,18 @@ ghost use Rattle.vx_model.specs.Replays.{IsLeft};
 ghost use Rattle.vx_dev.specs.Moments.{Told, Always};
 ghost use Rattle.vx_model.specs.Allowed.{IsAllowed};
 ghost use Rattle.vx_model.specs.Legal.{World};
-ghost use Rattle.vx_stage.specs.Kernels.{IsFit, IsFitAlone, HasRun, IsLive, present};
-ghost use Rattle.vx_stage.specs.KernelLaws.{KernelLaws};
+ghost use Rattle.vx_stage.specs.Kernels.{IsInside, IsFit, IsFitAlone, HasRun, IsLive, present};
 ghost use Rattle.vx_stage.specs.declared.kernel.Job.TheVariants.{Idle, Body, BodyOut, Head, HeadOut, Homes as HomesJob, HomesOut, Tail, TailOut, Leave, LeaveOut, Left, Broken};
 
+use crate::laws::kernel_laws;
 use std::mem;
-use vx_base::{Event, Logging};
+use vx_base::{Call, Event, Logging, Refusal, Reply};
 use vx_dev::{BlockDev, DevFault};
 use vx_home::Homes;
 use vx_layout::Super;
 use vx_log::{AfterImage, Batch, Log, note_laws};
+use vx_model::edits::edit_laws;
+use vx_model::waiting::waiting_laws;
 
 /// From this position on, the positions begin at 0 again when the log is emptied.
 const RESTART: u64 = 1 << 61;
@@ -90,9 +94,12 @@ impl Kernel {
     /// What a crash leaves, now or at any moment since the history began, is what the history allows.
     pub fn facts<D: BlockDev>(&self, _dev: &D)
         requires fit { IsFit (D.state _dev.now) self.now }
-        ensures crash { KernelLaws → (o : World) → HasRun o (D.state _dev.now) self.now → Told (D.state _dev.now) (IsLive o self.now)
+        ensures crash { (o : World) → HasRun o (D.state _dev.now) self.now → Told (D.state _dev.now) (IsLive o self.now)
             → Told (D.state _dev.now) (Always self.now.first (IsAllowed self.now.logging o self.now.history.items)) }
-    {}
+    {
+        // The proof rests on these laws; nothing runs here.
+        kernel_laws();
+    }
 
     /// Begins to write home all that is noted, so that the log can be emptied.
     pub fn empty(&mut self)
@@ -111,9 +118,10 @@ impl Kernel {
     pub fn stage<D: BlockDev>(&mut self, dev: &mut D) -> Result<(), DevFault>
         requires fit { IsFit (D.state dev.old) self.old }
         ensures fit { IsFit (D.state dev.new) self.new }
-        ensures live { KernelLaws → (o : World) → HasRun o (D.state dev.old) self.old → Told (D.state dev.old) (IsLive o self.old) → Told (D.state dev.new) (IsLive o self.new) }
+        ensures live { (o : World) → HasRun o (D.state dev.old) self.old → Told (D.state dev.old) (IsLive o self.old) → Told (D.state dev.new) (IsLive o self.new) }
         ensures run { (o : World) → HasRun o (D.state dev.old) self.old → HasRun o (D.state dev.new) self.new }
         ensures history { self.new.history ≡ self.old.history }
+        ensures done { OnOk result (self.new ≡ staged self.old self.old.job) }
         ensures broken { OnErr result (self.new.job ≡ Broken) }
         ensures cause { HasCause (D.state dev.old).write_faults (D.state dev.new).write_faults result }
     {
@@ -142,12 +150,15 @@ impl Kernel {
         requires job { self.old.job ≡ Body }
         requires fit { IsFit (D.state dev.old) self.old }
         ensures fit { IsFit (D.state dev.new) self.new }
-        ensures live { KernelLaws → (o : World) → HasRun o (D.state dev.old) self.old → Told (D.state dev.old) (IsLive o self.old) → Told (D.state dev.new) (IsLive o self.new) }
+        ensures live { (o : World) → HasRun o (D.state dev.old) self.old → Told (D.state dev.old) (IsLive o self.old) → Told (D.state dev.new) (IsLive o self.new) }
         ensures run { (o : World) → HasRun o (D.state dev.old) self.old → HasRun o (D.state dev.new) self.new }
         ensures same { self.new ≡ record self.old { log = self.new.log; job = self.new.job } }
+        ensures done { OnOk result (self.new ≡ staged self.old Body) }
         ensures broken { OnErr result (self.new.job ≡ Broken) }
         ensures cause { HasCause (D.state dev.old).write_faults (D.state dev.new).write_faults result }
     {
+        // The proof rests on these laws; nothing runs here.
+        kernel_laws();
         // The proof wants to know what every log is.
         let _head = self.log.head();
         self.job = Job::Broken;
@@ -161,12 +172,15 @@ impl Kernel {
         requires job { self.old.job ≡ BodyOut }
         requires fit { IsFit (D.state dev.old) self.old }
         ensures fit { IsFit (D.state dev.new) self.new }
-        ensures live { KernelLaws → (o : World) → HasRun o (D.state dev.old) self.old → Told (D.state dev.old) (IsLive o self.old) → Told (D.state dev.new) (IsLive o self.new) }
+        ensures live { (o : World) → HasRun o (D.state dev.old) self.old → Told (D.state dev.old) (IsLive o self.old) → Told (D.state dev.new) (IsLive o self.new) }
         ensures run { (o : World) → HasRun o (D.state dev.old) self.old → HasRun o (D.state dev.new) self.new }
         ensures same { self.new ≡ record self.old { job = self.new.job } }
+        ensures done { OnOk result (self.new ≡ staged self.old BodyOut) }
         ensures broken { OnErr result (self.new.job ≡ Broken) }
         ensures cause { HasCause (D.state dev.old).write_faults (D.state dev.new).write_faults result }
     {
+        // The proof rests on these laws; nothing runs here.
+        kernel_laws();
         // The proof wants to know what every log is.
         let _head = self.log.head();
         self.job = Job::Broken;
@@ -180,13 +194,15 @@ impl Kernel {
         requires job { self.old.job ≡ Head }
         requires fit { IsFit (D.state dev.old) self.old }
         ensures fit { IsFit (D.state dev.new) self.new }
-        ensures live { KernelLaws → (o : World) → HasRun o (D.state dev.old) self.old → Told (D.state dev.old) (IsLive o self.old) → Told (D.state dev.new) (IsLive o self.new) }
+        ensures live { (o : World) → HasRun o (D.state dev.old) self.old → Told (D.state dev.old) (IsLive o self.old) → Told (D.state dev.new) (IsLive o self.new) }
         ensures run { (o : World) → HasRun o (D.state dev.old) self.old → HasRun o (D.state dev.new) self.new }
         ensures same { self.new ≡ record self.old { log = self.new.log; homes = self.new.homes; ready = self.new.ready; job = self.new.job } }
+        ensures done { OnOk result (self.new ≡ staged self.old Head) }
         ensures broken { OnErr result (self.new.job ≡ Broken) }
         ensures cause { HasCause (D.state dev.old).write_faults (D.state dev.new).write_faults result }
     {
         // The proof rests on these laws; nothing runs here.
+        kernel_laws();
         note_laws();
         let _head = self.log.head();
         self.job = Job::Broken;
@@ -205,12 +221,15 @@ impl Kernel {
         requires job { self.old.job ≡ HeadOut }
         requires fit { IsFit (D.state dev.old) self.old }
         ensures fit { IsFit (D.state dev.new) self.new }
-        ensures live { KernelLaws → (o : World) → HasRun o (D.state dev.old) self.old → Told (D.state dev.old) (IsLive o self.old) → Told (D.state dev.new) (IsLive o self.new) }
+        ensures live { (o : World) → HasRun o (D.state dev.old) self.old → Told (D.state dev.old) (IsLive o self.old) → Told (D.state dev.new) (IsLive o self.new) }
         ensures run { (o : World) → HasRun o (D.state dev.old) self.old → HasRun o (D.state dev.new) self.new }
         ensures same { OnOk result (self.new ≡ record self.old { job = Idle; committed = self.old.closing }) }
+        ensures done { OnOk result (self.new ≡ staged self.old HeadOut) }
         ensures broken { OnErr result (self.new ≡ record self.old { job = Broken }) }
         ensures cause { HasCause (D.state dev.old).write_faults (D.state dev.new).write_faults result }
     {
+        // The proof rests on these laws; nothing runs here.
+        kernel_laws();
         self.job = Job::Broken;
         dev.barrier()?;
         self.job = Job::Idle;
@@ -223,12 +242,15 @@ impl Kernel {
         requires job { self.old.job ≡ HomesJob put }
         requires fit { IsFit (D.state dev.old) self.old }
         ensures fit { IsFit (D.state dev.new) self.new }
-        ensures live { KernelLaws → (o : World) → HasRun o (D.state dev.old) self.old → Told (D.state dev.old) (IsLive o self.old) → Told (D.state dev.new) (IsLive o self.new) }
+        ensures live { (o : World) → HasRun o (D.state dev.old) self.old → Told (D.state dev.old) (IsLive o self.old) → Told (D.state dev.new) (IsLive o self.new) }
         ensures run { (o : World) → HasRun o (D.state dev.old) self.old → HasRun o (D.state dev.new) self.new }
         ensures same { self.new ≡ record self.old { job = self.new.job } }
+        ensures done { OnOk result (self.new ≡ staged self.old (HomesJob put)) }
         ensures broken { OnErr result (self.new.job ≡ Broken) }
         ensures cause { HasCause (D.state dev.old).write_faults (D.state dev.new).write_faults result }
     {
+        // The proof rests on these laws; nothing runs here.
+        kernel_laws();
         self.job = Job::Broken;
         let end = self.homes.put_some(dev, put)?;
         self.job = if end == self.homes.len() {
@@ -244,12 +266,15 @@ impl Kernel {
         requires job { self.old.job ≡ HomesOut }
         requires fit { IsFit (D.state dev.old) self.old }
         ensures fit { IsFit (D.state dev.new) self.new }
-        ensures live { KernelLaws → (o : World) → HasRun o (D.state dev.old) self.old → Told (D.state dev.old) (IsLive o self.old) → Told (D.state dev.new) (IsLive o self.new) }
+        ensures live { (o : World) → HasRun o (D.state dev.old) self.old → Told (D.state dev.old) (IsLive o self.old) → Told (D.state dev.new) (IsLive o self.new) }
         ensures run { (o : World) → HasRun o (D.state dev.old) self.old → HasRun o (D.state dev.new) self.new }
         ensures same { self.new ≡ record self.old { job = self.new.job } }
+        ensures done { OnOk result (self.new ≡ staged self.old HomesOut) }
         ensures broken { OnErr result (self.new.job ≡ Broken) }
         ensures cause { HasCause (D.state dev.old).write_faults (D.state dev.new).write_faults result }
     {
+        // The proof rests on these laws; nothing runs here.
+        kernel_laws();
         self.job = Job::Broken;
         dev.barrier()?;
         self.job = Job::Tail;
@@ -261,12 +286,15 @@ impl Kernel {
         requires job { self.old.job ≡ Tail }
         requires fit { IsFit (D.state dev.old) self.old }
         ensures fit { IsFit (D.state dev.new) self.new }
-        ensures live { KernelLaws → (o : World) → HasRun o (D.state dev.old) self.old → Told (D.state dev.old) (IsLive o self.old) → Told (D.state dev.new) (IsLive o self.new) }
+        ensures live { (o : World) → HasRun o (D.state dev.old) self.old → Told (D.state dev.old) (IsLive o self.old) → Told (D.state dev.new) (IsLive o self.new) }
         ensures run { (o : World) → HasRun o (D.state dev.old) self.old → HasRun o (D.state dev.new) self.new }
         ensures same { self.new ≡ record self.old { log = self.new.log; homes = self.new.homes; job = self.new.job } }
+        ensures done { OnOk result (self.new ≡ record self.old { log = advanced self.old.log self.old.log.head; homes = []; job = TailOut }) }
         ensures broken { OnErr result (self.new.job ≡ Broken) }
         ensures cause { HasCause (D.state dev.old).write_faults (D.state dev.new).write_faults result }
     {
+        // The proof rests on these laws; nothing runs here.
+        kernel_laws();
         self.job = Job::Broken;
         let head = self.log.head();
         self.log.advance_tail(dev, head)?;
@@ -280,12 +308,15 @@ impl Kernel {
         requires job { self.old.job ≡ Tail }
         requires fit { IsFit (D.state dev.old) self.old }
         ensures fit { IsFit (D.state dev.new) self.new }
-        ensures live { KernelLaws → (o : World) → HasRun o (D.state dev.old) self.old → Told (D.state dev.old) (IsLive o self.old) → Told (D.state dev.new) (IsLive o self.new) }
+        ensures live { (o : World) → HasRun o (D.state dev.old) self.old → Told (D.state dev.old) (IsLive o self.old) → Told (D.state dev.new) (IsLive o self.new) }
         ensures run { (o : World) → HasRun o (D.state dev.old) self.old → HasRun o (D.state dev.new) self.new }
         ensures same { self.new ≡ record self.old { log = self.new.log; homes = self.new.homes; job = self.new.job } }
+        ensures done { OnOk result (self.new ≡ record self.old { log = restarted self.old.log; homes = []; job = TailOut }) }
         ensures broken { OnErr result (self.new.job ≡ Broken) }
         ensures cause { HasCause (D.state dev.old).write_faults (D.state dev.new).write_faults result }
     {
+        // The proof rests on these laws; nothing runs here.
+        kernel_laws();
         self.job = Job::Broken;
         self.log.restart(dev)?;
         self.homes.clear();
@@ -298,12 +329,15 @@ impl Kernel {
         requires job { self.old.job ≡ TailOut }
         requires fit { IsFit (D.state dev.old) self.old }
         ensures fit { IsFit (D.state dev.new) self.new }
-        ensures live { KernelLaws → (o : World) → HasRun o (D.state dev.old) self.old → Told (D.state dev.old) (IsLive o self.old) → Told (D.state dev.new) (IsLive o self.new) }
+        ensures live { (o : World) → HasRun o (D.state dev.old) self.old → Told (D.state dev.old) (IsLive o self.old) → Told (D.state dev.new) (IsLive o self.new) }
         ensures run { (o : World) → HasRun o (D.state dev.old) self.old → HasRun o (D.state dev.new) self.new }
         ensures same { self.new ≡ record self.old { job = self.new.job } }
+        ensures done { OnOk result (self.new ≡ staged self.old TailOut) }
         ensures broken { OnErr result (self.new.job ≡ Broken) }
         ensures cause { HasCause (D.state dev.old).write_faults (D.state dev.new).write_faults result }
     {
+        // The proof rests on these laws; nothing runs here.
+        kernel_laws();
         self.job = Job::Broken;
         dev.barrier()?;
         self.job = Job::Idle;
@@ -320,9 +354,11 @@ impl Kernel {
         requires empty { self.old.log.tail ≡ self.old.log.head }
         ensures fit { IsFitAlone self.new }
         ensures run { (o : World) (d : Device) → HasRun o d self.old → HasRun o d self.new }
-        ensures live { KernelLaws → (o : World) (d : Device) → HasRun o d self.old → Told d (IsLive o self.old) → Told d (IsLive o self.new) }
+        ensures live { (o : World) (d : Device) → HasRun o d self.old → Told d (IsLive o self.old) → Told d (IsLive o self.new) }
         ensures same { self.new ≡ record self.old { job = Leave } }
     {
+        // The proof rests on these laws; nothing runs here.
+        kernel_laws();
         self.job = Job::Leave;
     }
 
@@ -331,12 +367,15 @@ impl Kernel {
         requires job { self.old.job ≡ Leave }
         requires fit { IsFit (D.state dev.old) self.old }
         ensures fit { IsFit (D.state dev.new) self.new }
-        ensures live { KernelLaws → (o : World) → HasRun o (D.state dev.old) self.old → Told (D.state dev.old) (IsLive o self.old) → Told (D.state dev.new) (IsLive o self.new) }
+        ensures live { (o : World) → HasRun o (D.state dev.old) self.old → Told (D.state dev.old) (IsLive o self.old) → Told (D.state dev.new) (IsLive o self.new) }
         ensures run { (o : World) → HasRun o (D.state dev.old) self.old → HasRun o (D.state dev.new) self.new }
         ensures same { self.new ≡ record self.old { job = self.new.job } }
+        ensures done { OnOk result (self.new ≡ staged self.old Leave) }
         ensures broken { OnErr result (self.new.job ≡ Broken) }
         ensures cause { HasCause (D.state dev.old).write_faults (D.state dev.new).write_faults result }
     {
+        // The proof rests on these laws; nothing runs here.
+        kernel_laws();
         self.job = Job::Broken;
         let superblock = Super {
             log_blocks: self.sizes.log_blocks,
@@ -356,13 +395,15 @@ impl Kernel {
         requires room { vec_len self.old.history < vec_capacity self.old.history }
         ensures fit { IsFit (D.state dev.new) self.new }
         ensures run { (o : World) → HasRun o (D.state dev.old) self.old → IsOver o self.old → HasRun o (D.state dev.new) self.new }
-        ensures live { KernelLaws → (o : World) → HasRun o (D.state dev.old) self.old → IsOver o self.old → Told (D.state dev.old) (IsLive o self.old) → Told (D.state dev.new) (IsLive o self.new) }
-        ensures left { OnOk result (KernelLaws → (o : World) → HasRun o (D.state dev.old) self.old → IsOver o self.old → Told (D.state dev.old) (IsLive o self.old) → Told (D.state dev.new) (IsLeft (present o self.old).layout.device_sectors (present o self.old).tree)) }
+        ensures live { (o : World) → HasRun o (D.state dev.old) self.old → IsOver o self.old → Told (D.state dev.old) (IsLive o self.old) → Told (D.state dev.new) (IsLive o self.new) }
+        ensures left { OnOk result ((o : World) → HasRun o (D.state dev.old) self.old → IsOver o self.old → Told (D.state dev.old) (IsLive o self.old) → Told (D.state dev.new) (IsLeft (present o self.old).layout.device_sectors (present o self.old).tree)) }
         ensures items { OnOk result (self.new.history.items ≡ self.old.history.items ++ event.Unmounted (D.state dev.new).count ∷ []) }
         ensures job { OnOk result (self.new.job ≡ Left) }
         ensures broken { OnErr result (self.new ≡ record self.old { job = Broken }) }
         ensures cause { HasCause (D.state dev.old).write_faults (D.state dev.new).write_faults result }
     {
+        // The proof rests on these laws; nothing runs here.
+        kernel_laws();
         self.job = Job::Broken;
         dev.barrier()?;
         let at = dev.ops();
@@ -407,56 +448,111 @@ impl Kernel {
         ensures fit { IsFitAlone self.new }
         ensures committed { self.new.committed ≡ length self.old.history.items }
         ensures run { (o : World) (d : Device) → HasRun o d self.old → HasRun o d self.new }
-        ensures live { KernelLaws → (o : World) (d : Device) → HasRun o d self.old → Told d (IsLive o self.old) → Told d (IsLive o self.new) }
+        ensures live { (o : World) (d : Device) → HasRun o d self.old → Told d (IsLive o self.old) → Told d (IsLive o self.new) }
         ensures same { self.new ≡ record self.old { committed = self.new.committed; closing = self.new.committed } }
     {
+        // The proof rests on these laws; nothing runs here.
+        kernel_laws();
         self.committed = self.history.len() as u64;
         self.closing = self.committed;
     }
 
-    /// Notes an event that changes no metadata, as the answer of a call that is durable as far as it is to be, or refused.
-    pub fn note(&mut self, event: Event)
+    /// Answers the call that stands at this place of the history: with success only once all that it makes durable is committed.
+    pub fn ret<D: BlockDev>(&mut self, dev: &D, place: u64, answer: Reply)
+        requires fit { IsFit (D.state dev.now) self.old }
+        requires free { IsBusy self.old.job → ⊥ }
         requires room { vec_len self.old.history < vec_capacity self.old.history }
-        ensures items { self.new.history.items ≡ self.old.history.items ++ event ∷ [] }
-        ensures run { (o : World) (d : Device) → HasRun o d self.old → IsGrowth o d self.old event → HasRun o d self.new }
-        ensures live { (o : World) (d : Device) → HasRun o d self.old → IsGrowth o d self.old event → FreesNone o self.old event → IsInStep d → next_state o self.old event ≡ present o self.old → (self.old.job ≡ Broken → IsQuiet d.count event)
-            → Told d (IsLive o self.old) → Told d (IsLive o self.new) }
+        ensures fit { IsFit (D.state dev.now) self.new }
+        ensures items { self.new.history.items ≡ self.old.history.items ++ event.Ret (D.state dev.now).count place answer ∷ [] }
+        ensures run { (o : World) → HasRun o (D.state dev.now) self.old → MayAnswer o self.old place answer → HasRun o (D.state dev.now) self.new }
+        ensures live { (o : World) → HasRun o (D.state dev.now) self.old → MayAnswer o self.old place answer → Told (D.state dev.now) (IsLive o self.old) → Told (D.state dev.now) (IsLive o self.new) }
         ensures same { self.new ≡ record self.old { history = self.new.history } }
     {
-        self.history.push_reserved(event);
+        let at = dev.ops();
+        self.history.push_reserved(Event::Ret { at, place, answer });
+    }
+
+    /// Notes a call that is refused for a fault of the device or for want of memory.
+    pub fn refuse<D: BlockDev>(&mut self, dev: &D, session: u8, line: u32, call: Call, why: Refusal)
+        requires fit { IsFit (D.state dev.now) self.old }
+        requires free { IsBusy self.old.job → ⊥ }
+        requires room { vec_len self.old.history < vec_capacity self.old.history }
+        ensures fit { IsFit (D.state dev.now) self.new }
+        ensures items { self.new.history.items ≡ self.old.history.items ++ event.Do (D.state dev.now).count session line call (say.Refused why) ∷ [] }
+        ensures run { (o : World) → HasRun o (D.state dev.now) self.old → MayRefuse o self.old session call why → HasRun o (D.state dev.now) self.new }
+        ensures live { (o : World) → HasRun o (D.state dev.now) self.old → MayRefuse o self.old session call why → Told (D.state dev.now) (IsLive o self.old) → Told (D.state dev.now) (IsLive o self.new) }
+        ensures same { self.new ≡ record self.old { history = self.new.history } }
+    {
+        // The proof rests on these laws; nothing runs here.
+        waiting_laws();
+        let at = dev.ops();
+        self.history.push_reserved(Event::Do {
+            at,
+            session,
+            line,
+            call,
+            reply: Reply::Refused(why),
+        });
     }
 
     /// Frees the blocks that were given up before the committed state, once the log is empty, and notes it.
-    pub fn release(&mut self, at: u64)
+    pub fn release<D: BlockDev>(&mut self, dev: &D)
+        requires fit { IsFit (D.state dev.now) self.old }
         requires job { self.old.job ≡ Idle }
         requires empty { self.old.homes ≡ [] }
-        requires level { self.old.closing ≡ self.old.committed }
         requires room { vec_len self.old.history < vec_capacity self.old.history }
-        ensures items { self.new.history.items ≡ self.old.history.items ++ event.Release at self.old.committed ∷ [] }
-        ensures run { (o : World) (d : Device) → HasRun o d self.old → IsGrowth o d self.old (event.Release at self.old.committed) → HasRun o d self.new }
-        ensures live { KernelLaws → (o : World) (d : Device) → IsSuper self.old.sizes → HasRun o d self.old → IsGrowth o d self.old (event.Release at self.old.committed) → IsInStep d → Told d (IsLive o self.old) → Told d (IsLive o self.new) }
+        ensures fit { IsFit (D.state dev.now) self.new }
+        ensures items { self.new.history.items ≡ self.old.history.items ++ event.Release (D.state dev.now).count self.old.committed ∷ [] }
+        ensures run { (o : World) → HasRun o (D.state dev.now) self.old → IsInUse o self.old → HasRun o (D.state dev.now) self.new }
+        ensures live { (o : World) → HasRun o (D.state dev.now) self.old → IsInUse o self.old → Told (D.state dev.now) (IsLive o self.old) → Told (D.state dev.now) (IsLive o self.new) }
         ensures same { self.new ≡ record self.old { history = self.new.history } }
     {
+        // The proof rests on these laws; nothing runs here.
+        kernel_laws();
+        edit_laws();
+        let at = dev.ops();
         let upto = self.committed;
         self.history.push_reserved(Event::Release { at, upto });
     }
 
-    /// Notes a Do, and puts the sectors that it changes into the batch that calls join. Nothing is done on the device.
-    pub fn act(&mut self, event: Event, transaction: &Batch)
+    /// Notes a call that was done in memory, and puts the sectors that it changes into the batch that calls join. Nothing is done on
+    /// the device.
+    pub fn act<D: BlockDev>(
+        &mut self,
+        dev: &D,
+        session: u8,
+        line: u32,
+        call: Call,
+        reply: Reply,
+        transaction: &Batch,
+    )
+        requires fit { IsFit (D.state dev.now) self.old }
+        requires free { IsBusy self.old.job → ⊥ }
         requires room { vec_len self.old.history < vec_capacity self.old.history }
         requires fits { length self.old.gathered + length transaction.now ≤ 400 }
-        ensures items { self.new.history.items ≡ self.old.history.items ++ event ∷ [] }
+        requires inside { All (IsInside self.old.sizes) transaction.now }
+        ensures fit { IsFit (D.state dev.now) self.new }
+        ensures items { self.new.history.items ≡ self.old.history.items ++ event.Do (D.state dev.now).count session line call reply ∷ [] }
         ensures gathered { self.new.gathered ≡ with_notes self.old.gathered transaction.now }
-        ensures run { (o : World) (d : Device) → HasRun o d self.old → IsGrowth o d self.old event → HasRun o d self.new }
-        ensures live { NoteLaws → (o : World) (d : Device) → HasRun o d self.old → IsGrowth o d self.old event → FreesNone o self.old event → IsInStep d
-            → Leads (volume_of self.old.sizes) (parsed_of (present o self.old)) (parsed_of (next_state o self.old event)) transaction.now
-            → AreYoung (next_state o self.old event) self.old.closing transaction.now → (self.old.job ≡ Broken → IsQuiet d.count event)
-            → Told d (IsLive o self.old) → Told d (IsLive o self.new) }
+        ensures run { (o : World) → HasRun o (D.state dev.now) self.old → MayDo o self.old session line call reply → HasRun o (D.state dev.now) self.new }
+        ensures live { (o : World) → HasRun o (D.state dev.now) self.old → MayDo o self.old session line call reply
+            → IsBatch (volume_of self.old.sizes) (parsed_of (present o self.old)) (parsed_of (called_state o self.old session call reply)) transaction.now
+            → Told (D.state dev.now) (IsLive o self.old) → Told (D.state dev.now) (IsLive o self.new) }
         ensures same { self.new ≡ record self.old { gathered = self.new.gathered; history = self.new.history } }
     {
+        // The proof rests on these laws, and on what every batch is.
+        kernel_laws();
+        waiting_laws();
         let _count = transaction.len();
         join(&mut self.gathered, transaction.entries());
-        self.history.push_reserved(event);
+        let at = dev.ops();
+        self.history.push_reserved(Event::Do {
+            at,
+            session,
+            line,
+            call,
+            reply,
+        });
     }
 }
 

@@ -1,5 +1,4 @@
 //! Laws that the stages rest on.
-ghost use Rattle.vx_stage.specs.DoLaws.{DoLaws};
 ghost use Rattle.vx_stage.specs.KernelLaws.{KernelLaws};
 ghost use Rattle.vx_stage.specs.MergeLaws.{MergeLaws};
 
@@ -35,8 +34,3 @@ pub fn kernel_laws()
     edit_laws();
     allowed_laws();
 }
-
-/// What a Do gives to the memory turn.
-pub fn do_laws()
-    ensures { DoLaws }
-{}

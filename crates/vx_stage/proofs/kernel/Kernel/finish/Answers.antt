@@ -19,7 +19,7 @@ returns-clause-run g c = λ o run over.
     gone_run o b k run_b over fits.2 c.ops-at.result c.ops-at.ensures.number (record k { history = c.push_reserved.new.self }) c.push_reserved.ensures.items c.len.result n_is
 
 pub returns-clause-live : goal.returns-clause-live
-returns-clause-live g c = λ laws o run over told.
+returns-clause-live g c = λ o run over told.
     let k = c.args.self.now in
     let a = g.D.BlockDev.state c.args.dev.now in
     let b = g.D.BlockDev.state c.barrier.new.self in
@@ -27,10 +27,10 @@ returns-clause-live g c = λ laws o run over told.
     let run_b = run_with o a b k run (omega (arith, c.in_ok-barrier.ensures.passed.count)) k.log k.homes k.gathered k.ready k.job k.committed k.closing (omega arith) run.order run.within in
     let n_is : c.len.result ≡ length k.history.items + 1 = c.len.ensures ∙ c.push_reserved.new.self.ok.0 ∙ ap (λ (es : List Event). length es) c.push_reserved.ensures.items ∙ one_more k.history.items (e o b k run_b over fits.2 c.ops-at.result c.ops-at.ensures.number) in
     gone_told o b k run_b over fits.2 c.ops-at.result c.ops-at.ensures.number (record k { history = c.push_reserved.new.self }) c.push_reserved.ensures.items c.len.result n_is (g.met.D.BlockDev.in_step c.barrier.new.self)
-    (leave_passed laws o k a c.requires.fit.sizes run (g.met.D.BlockDev.in_step c.args.dev.now) b c.requires.job c.in_ok-barrier.ensures.passed told)
+    (leave_passed c.kernel_laws.ensures o k a c.requires.fit.sizes run (g.met.D.BlockDev.in_step c.args.dev.now) b c.requires.job c.in_ok-barrier.ensures.passed told)
 
 pub returns-clause-left : goal.returns-clause-left
-returns-clause-left g c = λ laws o run over told.
+returns-clause-left g c = λ o run over told.
     let k = c.args.self.now in
     let a = g.D.BlockDev.state c.args.dev.now in
     let b = g.D.BlockDev.state c.barrier.new.self in
@@ -40,11 +40,11 @@ returns-clause-left g c = λ laws o run over told.
     let k2 = record k { history = c.push_reserved.new.self } in
     gone_left o b k run_b over fits.2 c.ops-at.result c.ops-at.ensures.number k2 c.push_reserved.ensures.items c.len.result n_is
     (gone_told o b k run_b over fits.2 c.ops-at.result c.ops-at.ensures.number k2 c.push_reserved.ensures.items c.len.result n_is (g.met.D.BlockDev.in_step c.barrier.new.self)
-    (leave_passed laws o k a c.requires.fit.sizes run (g.met.D.BlockDev.in_step c.args.dev.now) b c.requires.job c.in_ok-barrier.ensures.passed told))
+    (leave_passed c.kernel_laws.ensures o k a c.requires.fit.sizes run (g.met.D.BlockDev.in_step c.args.dev.now) b c.requires.job c.in_ok-barrier.ensures.passed told))
 
 pub returns-in_err-barrier-clause-live : goal.returns-in_err-barrier-clause-live
-returns-in_err-barrier-clause-live g c = λ laws o run over told.
-    leave_not_passed laws o c.args.self.now (g.D.BlockDev.state c.args.dev.now) c.requires.fit.sizes run (g.met.D.BlockDev.in_step c.args.dev.now) (g.D.BlockDev.state c.barrier.new.self) c.requires.job c.in_err-barrier.ensures.nothing told
+returns-in_err-barrier-clause-live g c = λ o run over told.
+    leave_not_passed c.kernel_laws.ensures o c.args.self.now (g.D.BlockDev.state c.args.dev.now) c.requires.fit.sizes run (g.met.D.BlockDev.in_step c.args.dev.now) (g.D.BlockDev.state c.barrier.new.self) c.requires.job c.in_err-barrier.ensures.nothing told
 
 pub returns-in_err-barrier-clause-run : goal.returns-in_err-barrier-clause-run
 returns-in_err-barrier-clause-run g c = λ o run over.

@@ -8,15 +8,15 @@ use Rattle.vx_stage.proofs.Commits.{head_passed, head_not_passed}
 use Rattle.vx_stage.proofs.kernel.Kernel.pass_head.Goals as goal
 
 pub returns-clause-live : goal.returns-clause-live
-returns-clause-live g c = λ laws o run told.
+returns-clause-live g c = λ o run told.
     let k = c.args.self.now in
-    head_passed laws o k (g.D.BlockDev.state c.args.dev.now) c.requires.fit.sizes run (g.met.D.BlockDev.in_step c.args.dev.now) (g.D.BlockDev.state c.barrier.new.self) c.requires.job
+    head_passed c.kernel_laws.ensures o k (g.D.BlockDev.state c.args.dev.now) c.requires.fit.sizes run (g.met.D.BlockDev.in_step c.args.dev.now) (g.D.BlockDev.state c.barrier.new.self) c.requires.job
     (none_of k.log.closing (subst (λ (j : Job). JobFits j k) c.requires.job c.requires.fit.job).0) c.in_ok-barrier.ensures.passed told
 
 pub returns-in_err-barrier-clause-live : goal.returns-in_err-barrier-clause-live
-returns-in_err-barrier-clause-live g c = λ laws o run told.
+returns-in_err-barrier-clause-live g c = λ o run told.
     let k = c.args.self.now in
-    head_not_passed laws o k (g.D.BlockDev.state c.args.dev.now) c.requires.fit.sizes run (g.met.D.BlockDev.in_step c.args.dev.now) (g.D.BlockDev.state c.barrier.new.self) c.requires.job
+    head_not_passed c.kernel_laws.ensures o k (g.D.BlockDev.state c.args.dev.now) c.requires.fit.sizes run (g.met.D.BlockDev.in_step c.args.dev.now) (g.D.BlockDev.state c.barrier.new.self) c.requires.job
     c.in_err-barrier.ensures.nothing told
 
 pub returns-clause-run : goal.returns-clause-run

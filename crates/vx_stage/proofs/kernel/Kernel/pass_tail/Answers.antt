@@ -5,12 +5,12 @@ use Rattle.vx_stage.specs.declared.kernel.Job.TheVariants as jobs
 use Rattle.vx_stage.proofs.kernel.Kernel.pass_tail.Goals as goal
 
 pub returns-clause-live : goal.returns-clause-live
-returns-clause-live g c = λ laws o run told.
-    tail_passed laws o c.args.self.now (g.D.BlockDev.state c.args.dev.now) c.requires.fit.sizes run (g.met.D.BlockDev.in_step c.args.dev.now) (g.D.BlockDev.state c.barrier.new.self) c.requires.job c.in_ok-barrier.ensures.passed told
+returns-clause-live g c = λ o run told.
+    tail_passed c.kernel_laws.ensures o c.args.self.now (g.D.BlockDev.state c.args.dev.now) c.requires.fit.sizes run (g.met.D.BlockDev.in_step c.args.dev.now) (g.D.BlockDev.state c.barrier.new.self) c.requires.job c.in_ok-barrier.ensures.passed told
 
 pub returns-in_err-barrier-clause-live : goal.returns-in_err-barrier-clause-live
-returns-in_err-barrier-clause-live g c = λ laws o run told.
-    tail_not_passed laws o c.args.self.now (g.D.BlockDev.state c.args.dev.now) c.requires.fit.sizes run (g.met.D.BlockDev.in_step c.args.dev.now) (g.D.BlockDev.state c.barrier.new.self) c.requires.job c.in_err-barrier.ensures.nothing told
+returns-in_err-barrier-clause-live g c = λ o run told.
+    tail_not_passed c.kernel_laws.ensures o c.args.self.now (g.D.BlockDev.state c.args.dev.now) c.requires.fit.sizes run (g.met.D.BlockDev.in_step c.args.dev.now) (g.D.BlockDev.state c.barrier.new.self) c.requires.job c.in_err-barrier.ensures.nothing told
 
 pub returns-clause-run : goal.returns-clause-run
 returns-clause-run g c = λ o run.

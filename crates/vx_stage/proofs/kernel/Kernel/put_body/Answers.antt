@@ -8,10 +8,10 @@ use Rattle.vx_stage.specs.declared.kernel.Job.TheVariants as jobs
 use Rattle.vx_stage.proofs.kernel.Kernel.put_body.Goals as goal
 
 pub returns-clause-live : goal.returns-clause-live
-returns-clause-live g c = λ laws o run told.
+returns-clause-live g c = λ o run told.
     let k = c.args.self.now in
     let there = closing_of k.log.closing (subst (λ (j : Job). JobFits j k) c.requires.job c.requires.fit.job).0 in
-    body_stage laws o k (g.D.BlockDev.state c.args.dev.now) c.requires.fit.sizes run (g.met.D.BlockDev.in_step c.args.dev.now) there.0 there.1 c.head-head.ensures.log c.requires.fit.sectors c.requires.job
+    body_stage c.kernel_laws.ensures o k (g.D.BlockDev.state c.args.dev.now) c.requires.fit.sizes run (g.met.D.BlockDev.in_step c.args.dev.now) there.0 there.1 c.head-head.ensures.log c.requires.fit.sectors c.requires.job
     (g.D.BlockDev.state c.put_next.new.dev) c.put_next.new.self c.if-out.self c.in_ok-out.ensures.stage
     (elim c.if-out.branch [
       | then-out w ↦ inl w.self-is
@@ -19,10 +19,10 @@ returns-clause-live g c = λ laws o run told.
     ]) c.in_ok-out.ensures.ok told
 
 pub returns-in_err-out-clause-live : goal.returns-in_err-out-clause-live
-returns-in_err-out-clause-live g c = λ laws o run told.
+returns-in_err-out-clause-live g c = λ o run told.
     let k = c.args.self.now in
     let there = closing_of k.log.closing (subst (λ (j : Job). JobFits j k) c.requires.job c.requires.fit.job).0 in
-    body_broken laws o k (g.D.BlockDev.state c.args.dev.now) c.requires.fit.sizes run (g.met.D.BlockDev.in_step c.args.dev.now) there.0 there.1 c.head-head.ensures.log c.requires.fit.sectors c.requires.job
+    body_broken c.kernel_laws.ensures o k (g.D.BlockDev.state c.args.dev.now) c.requires.fit.sizes run (g.met.D.BlockDev.in_step c.args.dev.now) there.0 there.1 c.head-head.ensures.log c.requires.fit.sectors c.requires.job
     (g.D.BlockDev.state c.put_next.new.dev) c.put_next.new.self c.in_err-out.ensures.same c.in_err-out.ensures.err told
 
 pub returns-clause-run : goal.returns-clause-run

@@ -12,7 +12,7 @@ use Rattle.vx_stage.specs.declared.kernel.Job.TheVariants as jobs
 use Rattle.vx_stage.proofs.kernel.Kernel.put_homes.Goals as goal
 
 pub returns-clause-live : goal.returns-clause-live
-returns-clause-live g c = λ laws o run told.
+returns-clause-live g c = λ o run told.
     let k = c.args.self.now in
     let put = c.args.put in
     let a = g.D.BlockDev.state c.args.dev.now in
@@ -21,20 +21,20 @@ returns-clause-live g c = λ laws o run told.
     let fits = subst (λ (j : Job). JobFits j k) c.requires.job c.requires.fit.job in
     elim c.if-end-len.branch [
       | then-end-len w ↦ subst (λ (j : Job). Told b (IsLive o (record k { job = j }))) (sym w.self-is)
-          (homes_out laws o k a c.requires.fit.sizes run (g.met.D.BlockDev.in_step c.args.dev.now) b put end c.requires.job (min_above put (length k.homes) fits.3) (min_below (put + 8) (length k.homes)) c.len.ensures.homes.rising
+          (homes_out c.kernel_laws.ensures o k a c.requires.fit.sizes run (g.met.D.BlockDev.in_step c.args.dev.now) b put end c.requires.job (min_above put (length k.homes) fits.3) (min_below (put + 8) (length k.homes)) c.len.ensures.homes.rising
           (let all : end ≡ length k.homes = omega (arith, w.if-end-len.true, c.in_ok-end.ensures.end, c.len.ensures.number) in all) c.in_ok-end.ensures.ran told)
       | else-end-len w ↦ subst (λ (j : Job). Told b (IsLive o (record k { job = j }))) (sym w.self-is)
           (subst (λ (n : ℕ). Told b (IsLive o (record k { job = Homes n }))) (sym c.in_ok-end.ensures.end)
-          (homes_more laws o k a c.requires.fit.sizes run (g.met.D.BlockDev.in_step c.args.dev.now) b put end c.requires.job (min_above put (length k.homes) fits.3) (min_below (put + 8) (length k.homes)) c.len.ensures.homes.rising
+          (homes_more c.kernel_laws.ensures o k a c.requires.fit.sizes run (g.met.D.BlockDev.in_step c.args.dev.now) b put end c.requires.job (min_above put (length k.homes) fits.3) (min_below (put + 8) (length k.homes)) c.len.ensures.homes.rising
           c.in_ok-end.ensures.ran told))
     ]
 
 pub returns-in_err-end-clause-live : goal.returns-in_err-end-clause-live
-returns-in_err-end-clause-live g c = λ laws o run told.
+returns-in_err-end-clause-live g c = λ o run told.
     let k = c.args.self.now in
     let put = c.args.put in
     let fits = subst (λ (j : Job). JobFits j k) c.requires.job c.requires.fit.job in
-    homes_broke laws o k (g.D.BlockDev.state c.args.dev.now) c.requires.fit.sizes run (g.met.D.BlockDev.in_step c.args.dev.now) (g.D.BlockDev.state c.put_some.new.dev) put (min (put + 8) (length k.homes)) c.requires.job
+    homes_broke c.kernel_laws.ensures o k (g.D.BlockDev.state c.args.dev.now) c.requires.fit.sizes run (g.met.D.BlockDev.in_step c.args.dev.now) (g.D.BlockDev.state c.put_some.new.dev) put (min (put + 8) (length k.homes)) c.requires.job
     (min_above put (length k.homes) fits.3) (min_below (put + 8) (length k.homes)) c.put_some.ensures.homes.rising c.in_err-end.ensures.broke told
 
 pub returns-clause-run : goal.returns-clause-run

@@ -9,22 +9,22 @@ use Rattle.vx_stage.specs.declared.kernel.Job.TheVariants as jobs
 use Rattle.vx_stage.proofs.kernel.Kernel.put_restart.Goals as goal
 
 pub returns-clause-live : goal.returns-clause-live
-returns-clause-live g c = λ laws o run told.
+returns-clause-live g c = λ o run told.
     let k = c.args.self.now in
     let a = g.D.BlockDev.state c.args.dev.now in
     let b = g.D.BlockDev.state c.restart.new.dev in
     let fits = subst (λ (j : Job). JobFits j k) c.requires.job c.requires.fit.job in
     let log_is : c.restart.new.self ≡ restarted k.log = c.in_ok-restart.ensures.restarted in
-    tail_written laws o k a c.requires.fit.sizes run (g.met.D.BlockDev.in_step c.args.dev.now) b 0 c.requires.job (λ r l. omega arith) c.restart.new.self c.clear.new.self c.clear.ensures
+    tail_written c.kernel_laws.ensures o k a c.requires.fit.sizes run (g.met.D.BlockDev.in_step c.args.dev.now) b 0 c.requires.job (λ r l. omega arith) c.restart.new.self c.clear.new.self c.clear.ensures
     (ap (λ (l : LogView). l.closing) log_is ∙ none_of k.log.closing fits.0) (ap (λ (l : LogView). l.serial) log_is) (ap (λ (l : LogView). l.tail) log_is) (ap (λ (l : LogView). l.head) log_is)
     c.in_ok-restart.ensures.put told
 
 pub returns-in_err-restart-clause-live : goal.returns-in_err-restart-clause-live
-returns-in_err-restart-clause-live g c = λ laws o run told.
+returns-in_err-restart-clause-live g c = λ o run told.
     let k = c.args.self.now in
     let a = g.D.BlockDev.state c.args.dev.now in
     let b = g.D.BlockDev.state c.restart.new.dev in
-    tail_failed laws o k a c.requires.fit.sizes run (g.met.D.BlockDev.in_step c.args.dev.now) b 0 c.requires.job (λ r l. omega arith) c.restart.new.self c.in_err-restart.ensures.failed told
+    tail_failed c.kernel_laws.ensures o k a c.requires.fit.sizes run (g.met.D.BlockDev.in_step c.args.dev.now) b 0 c.requires.job (λ r l. omega arith) c.restart.new.self c.in_err-restart.ensures.failed told
 
 pub returns-clause-run : goal.returns-clause-run
 returns-clause-run g c = λ o run.

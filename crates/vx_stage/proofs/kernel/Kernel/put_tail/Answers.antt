@@ -12,22 +12,22 @@ use Rattle.vx_stage.specs.declared.kernel.Job.TheVariants as jobs
 use Rattle.vx_stage.proofs.kernel.Kernel.put_tail.Goals as goal
 
 pub returns-clause-live : goal.returns-clause-live
-returns-clause-live g c = λ laws o run told.
+returns-clause-live g c = λ o run told.
     let k = c.args.self.now in
     let a = g.D.BlockDev.state c.args.dev.now in
     let b = g.D.BlockDev.state c.advance_tail.new.dev in
     let fits = subst (λ (j : Job). JobFits j k) c.requires.job c.requires.fit.job in
     let log_is : c.advance_tail.new.self ≡ advanced k.log k.log.head = c.in_ok-advance_tail.ensures.advanced ∙ ap (advanced k.log) c.head-head.ensures.number in
-    tail_written laws o k a c.requires.fit.sizes run (g.met.D.BlockDev.in_step c.args.dev.now) b k.log.head c.requires.job (head_low o k) c.advance_tail.new.self c.clear.new.self c.clear.ensures
+    tail_written c.kernel_laws.ensures o k a c.requires.fit.sizes run (g.met.D.BlockDev.in_step c.args.dev.now) b k.log.head c.requires.job (head_low o k) c.advance_tail.new.self c.clear.new.self c.clear.ensures
     (ap (λ (l : LogView). l.closing) log_is ∙ none_of k.log.closing fits.0) (ap (λ (l : LogView). l.serial) log_is) (ap (λ (l : LogView). l.tail) log_is) (ap (λ (l : LogView). l.head) log_is)
     (subst (λ (n : ℕ). Did (Put 2 (head_sector (next_serial k.log.serial) n k.log.head)) a b) c.head-head.ensures.number c.in_ok-advance_tail.ensures.put) told
 
 pub returns-in_err-advance_tail-clause-live : goal.returns-in_err-advance_tail-clause-live
-returns-in_err-advance_tail-clause-live g c = λ laws o run told.
+returns-in_err-advance_tail-clause-live g c = λ o run told.
     let k = c.args.self.now in
     let a = g.D.BlockDev.state c.args.dev.now in
     let b = g.D.BlockDev.state c.advance_tail.new.dev in
-    tail_failed laws o k a c.requires.fit.sizes run (g.met.D.BlockDev.in_step c.args.dev.now) b k.log.head c.requires.job (head_low o k) c.advance_tail.new.self
+    tail_failed c.kernel_laws.ensures o k a c.requires.fit.sizes run (g.met.D.BlockDev.in_step c.args.dev.now) b k.log.head c.requires.job (head_low o k) c.advance_tail.new.self
     (subst (λ (n : ℕ). Failed 2 (head_sector (next_serial k.log.serial) n k.log.head) a b) c.head-head.ensures.number c.in_err-advance_tail.ensures.failed) told
 
 pub returns-clause-run : goal.returns-clause-run

@@ -1,0 +1,30 @@
+-- What each stage does to the kernel in memory, where the device takes it.
+use Rattle.std.specs.Prelude.{false, ◌==◌, ◌+◌, ◌^◌, ℕ, [], length, min, nat_lt, Option, Some, None, if◌then◌else◌, List}
+use Rattle.vx_layout.specs.LogForms.{AfterImage}
+use Rattle.vx_log.specs.Batches.{with_notes}
+use Rattle.vx_log.specs.Logs.{after_stage, is_body_out, opened, advanced, restarted}
+use Rattle.vx_log.specs.declared.log.Closing.{Closing}
+use Rattle.vx_stage.specs.declared.kernel.Job.{Job}
+use Rattle.vx_stage.specs.declared.kernel.Job.TheVariants.{Idle, Body, BodyOut, Head, HeadOut, Homes, HomesOut, Tail, TailOut, Leave, LeaveOut}
+use Rattle.vx_stage.specs.declared.kernel.Kernel.{Kernel}
+
+abbrev pub closing_batch : Option Closing → List AfterImage
+closing_batch None = []
+closing_batch (Some c) = c.batch
+
+-- so many of the noted sectors are written home
+abbrev pub homes_to : ℕ → ℕ → Job
+homes_to put count = if put == count then HomesOut else Homes put
+
+-- the kernel once the next stage of this job is done
+abbrev pub staged : Kernel → Job → Kernel
+staged k Body = record k { log = record k.log { closing = after_stage k.log.closing }; job = if is_body_out (after_stage k.log.closing) then BodyOut else Body }
+staged k BodyOut = record k { job = Head }
+staged k Head = record k { log = record (opened k.log) { spare = false }; homes = with_notes k.homes (closing_batch k.log.closing); ready = Some []; job = HeadOut }
+staged k HeadOut = record k { job = Idle; committed = k.closing }
+staged k (Homes put) = record k { job = homes_to (min (put + 8) (length k.homes)) (length k.homes) }
+staged k HomesOut = record k { job = Tail }
+staged k Tail = record k { log = if nat_lt k.log.head (2 ^ 61) then advanced k.log k.log.head else restarted k.log; homes = []; job = TailOut }
+staged k TailOut = record k { job = Idle }
+staged k Leave = record k { job = LeaveOut }
+staged k _ = k
