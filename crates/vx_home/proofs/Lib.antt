@@ -2,3 +2,4 @@ mod Places
 mod NoteOrder
 mod HomeRuns
 mod Getting
+mod Slices

@@ -1,5 +1,5 @@
 //! Committed sectors that are not home yet.
-ghost use Rattle.std.specs.Prelude.{◌≡◌, ◌⊎◌, ◌<◌, ◌≤◌, ◌+◌, [], IfOk, IfErr, OnOk, OnErr, length, All, option_copied};
+ghost use Rattle.std.specs.Prelude.{◌≡◌, ◌⊎◌, ◌<◌, ◌≤◌, ◌+◌, [], IfOk, IfErr, OnOk, OnErr, length, All, min, option_copied, slice_range};
 ghost use Rattle.vx_base.specs.Faults.{HasCause};
 ghost use Rattle.vx_log.specs.Batches.{noted_at, with_notes, batch_set, IsPlaceOf, StandsAt, LacksAt};
 ghost use Rattle.vx_dev.specs.Runs.{Ran, BrokeOff, puts};
@@ -14,6 +14,9 @@ use vx_log::{AfterImage, note_laws, order_laws};
 
 /// The most sectors that are noted.
 const MOST_SECTORS: usize = 4096;
+
+/// The most sectors that a stage writes.
+const STAGE_SECTORS: u32 = 8;
 
 /// The last committed after-image of each sector that is not home yet.
 #[derive(Drop)]
@@ -94,6 +97,38 @@ impl Homes {
         ensures { self.new ≡ with_notes self.old batch.now }
     {
         note_each(self, batch);
+    }
+
+    /// Writes up to eight noted sectors home, from number `from` on, and answers up to which number. They stay noted.
+    pub fn put_some<D: BlockDev>(&self, dev: &mut D, from: u32) -> Result<u32, DevFault>
+        requires from { from ≤ length self.now }
+        requires inside { All (λ e. e.0 < (D.state dev.old).size) self.now }
+        ensures homes { IsHomes self.now }
+        ensures end { IfOk result (λ end. end ≡ min (from + 8) (length self.now)) }
+        ensures ran { OnOk result (Ran (puts (slice_range self.now from (min (from + 8) (length self.now)))) (D.state dev.old) (D.state dev.new)) }
+        ensures certain { OnOk result ((D.state dev.new).doubt ≡ (D.state dev.old).doubt) }
+        ensures broke { OnErr result (BrokeOff (slice_range self.now from (min (from + 8) (length self.now))) (D.state dev.old) (D.state dev.new)) }
+        ensures size { (D.state dev.new).size ≡ (D.state dev.old).size }
+        ensures later { (D.state dev.old).count ≤ (D.state dev.new).count }
+        ensures reads { (D.state dev.new).read_faults ≡ (D.state dev.old).read_faults }
+        ensures cause { HasCause (D.state dev.old).write_faults (D.state dev.new).write_faults result }
+    {
+        let count = self.len();
+        let end = (from + STAGE_SECTORS).min(count);
+        put_each(
+            dev,
+            &self.index.as_slice()[from as usize..end as usize],
+            self.images.as_slice(),
+        )?;
+        Ok(end)
+    }
+
+    /// Forgets all that is noted, once it is home; the memory stays.
+    pub fn clear(&mut self)
+        ensures { self.new ≡ [] }
+    {
+        self.index.clear();
+        self.images.clear();
     }
 
     /// Writes all noted sectors home, in rising order, and forgets them. After a fault all stay noted.
