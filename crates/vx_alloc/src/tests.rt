@@ -230,6 +230,8 @@ fn as_a_walk_finds_it(rt: HostRuntime) -> Result<(), Fail> {
         Step::Pend(9, LOW + 1),
         Step::Release(3),
         Step::Release(4),
+        Step::Take(HIGH + 22),
+        Step::Take(HIGH + 23),
         Step::Bar(1),
         Step::Next(None, None),
         Step::Pend(4, HIGH + 23),

@@ -23,35 +23,15 @@ Makes a file system in the file IMAGE, answers the lines of SCRIPT, and unmounts
 vxrun 0.1 of Vudkesh";
 
 fn main(rt: HostRuntime) -> ExitCode {
-    ExitCode::from(status(&rt))
-}
-
-fn status(rt: &HostRuntime) -> u8 {
     // kept to the end: no file that is opened may stand in the place of a closed standard stream
-    let _streams = match hold_standard_streams(rt) {
+    let _streams = match hold_standard_streams(&rt) {
         Ok(streams) => streams,
-        Err(_) => return cannot_open(rt),
+        Err(_) => return ExitCode::from(cannot_open(&rt)),
     };
-    let Ok(line) = command_line(rt) else {
-        return NO_MEMORY;
+    let (line, dev) = match opened(&rt) {
+        Ok(opened) => opened,
+        Err(status) => return ExitCode::from(status),
     };
-    if asks_for_usage(line.words.as_slice()) {
-        let _ = rt.eprintln(USAGE);
-    }
-    if !line.has_image {
-        return cannot_open(rt);
-    }
-    match image(rt, &line) {
-        Ok(dev) => answered(rt, &line, dev),
-        Err(why) => {
-            complain(rt, "vxrun", line.words.as_slice(), &why);
-            cannot_open(rt)
-        }
-    }
-}
-
-/// Runs the script, and answers the status.
-fn answered(rt: &HostRuntime, line: &CommandLine, dev: FileDev<File>) -> u8 {
     let mut script = StdSource::new(rt.stdin());
     let mut out = StdSink::new(rt.stdout());
     let Ran {
@@ -59,7 +39,7 @@ fn answered(rt: &HostRuntime, line: &CommandLine, dev: FileDev<File>) -> u8 {
         dev: _,
         history: _,
     } = run(
-        rt,
+        &rt,
         rt.alloc(),
         line.words.as_slice(),
         dev,
@@ -68,9 +48,29 @@ fn answered(rt: &HostRuntime, line: &CommandLine, dev: FileDev<File>) -> u8 {
         &OpenGate,
     );
     if let Some(why) = cause_of(status) {
-        complain(rt, "vxrun", line.words.as_slice(), &why);
+        complain(&rt, "vxrun", line.words.as_slice(), &why);
     }
-    status
+    ExitCode::from(status)
+}
+
+/// The words and the image, or the status where there is none.
+fn opened(rt: &HostRuntime) -> Result<(CommandLine, FileDev<File>), u8> {
+    let Ok(line) = command_line(rt) else {
+        return Err(NO_MEMORY);
+    };
+    if asks_for_usage(line.words.as_slice()) {
+        let _ = rt.eprintln(USAGE);
+    }
+    if !line.has_image {
+        return Err(cannot_open(rt));
+    }
+    match image(rt, &line) {
+        Ok(dev) => Ok((line, dev)),
+        Err(why) => {
+            complain(rt, "vxrun", line.words.as_slice(), &why);
+            Err(cannot_open(rt))
+        }
+    }
 }
 
 /// The image that the second word names. For `fresh` it is made, or lengthened with zeros.
