@@ -17,7 +17,7 @@ const LAST: u64 = 1 << 62;
 const MOST_OPEN: u32 = 144;
 
 impl Kernel {
-    /// The open batch has room for any transaction: else the call that is to join it commits first.
+    /// The open batch has room for any transaction: else the call that is to join it commits first (`docs/LOG.md`, "In stages").
     pub fn has_place(&self) -> bool
         ensures { result ≡ nat_le (length self.now.gathered) 144 }
     {
@@ -37,6 +37,7 @@ impl Kernel {
         ensures begun { result ≡ false → (self.new.job ≡ Body) ⊎ (self.new.job ≡ HomesJob 0) }
         ensures closes { 0 < length self.old.gathered → self.old.log.tail ≡ self.old.log.head → self.old.log.head ≤ 2 ^ 61 → self.new.job ≡ Body }
         ensures history { self.new.history ≡ self.old.history }
+        ensures sizes { self.new.sizes ≡ self.old.sizes }
         ensures run { (o : World) (d : Device) → HasRun o d self.old → HasRun o d self.new }
         ensures live { (o : World) (d : Device) → HasRun o d self.old → Told d (IsLive o self.old) → Told d (IsLive o self.new) }
     {
@@ -81,6 +82,7 @@ impl Kernel {
         ensures ready { result ≡ true → (self.new.job ≡ Idle) × (self.new.homes ≡ []) × (self.new.committed ≡ length self.old.history.items) }
         ensures begun { result ≡ false → (self.new.job ≡ Body) ⊎ (self.new.job ≡ HomesJob 0) }
         ensures history { self.new.history ≡ self.old.history }
+        ensures sizes { self.new.sizes ≡ self.old.sizes }
         ensures run { (o : World) (d : Device) → HasRun o d self.old → HasRun o d self.new }
         ensures live { (o : World) (d : Device) → HasRun o d self.old → Told d (IsLive o self.old) → Told d (IsLive o self.new) }
     {
@@ -103,6 +105,7 @@ impl Kernel {
         ensures begun { (self.new.job ≡ Body) ⊎ ((self.new.job ≡ HomesJob 0) ⊎ (self.new.job ≡ Leave)) }
         ensures leaves { self.old.gathered ≡ [] → self.old.log.tail ≡ self.old.log.head → self.new.job ≡ Leave }
         ensures history { self.new.history ≡ self.old.history }
+        ensures sizes { self.new.sizes ≡ self.old.sizes }
         ensures run { (o : World) (d : Device) → HasRun o d self.old → HasRun o d self.new }
         ensures live { (o : World) (d : Device) → HasRun o d self.old → Told d (IsLive o self.old) → Told d (IsLive o self.new) }
     {

@@ -38,7 +38,7 @@ const RESTART: u64 = 1 << 61;
 /// The sector of the superblock.
 const SUPER_SECTOR: u64 = 0;
 
-/// What the mount does on its device, one stage after another.
+/// What the mount does on its device, one stage after another. `docs/LOG.md` ("In stages") has the order.
 #[derive(Clone, Copy, Debug, PartialEq, Eq)]
 pub enum Job {
     Idle,
@@ -68,7 +68,7 @@ pub enum Job {
     Broken,
 }
 
-/// What a mount keeps of its log, and the history of its calls.
+/// What a mount keeps of its log, and the history of its calls. `docs/CRASHES.md` ("One stage a turn") says what is known of the device.
 #[derive(Drop)]
 pub struct Kernel {
     /// The superblock of the mounted file system.
@@ -114,7 +114,12 @@ impl Kernel {
         self.job = Job::Homes { put: 0 };
     }
 
-    /// Does the next stage of the job: up to eight sectors, or a barrier. Nothing where there is none.
+    /// Does the next stage of the job: up to eight sectors, or a barrier. Nothing where there is none. `docs/LOG.md` ("In stages") says
+    /// which job comes next.
+    ///
+    /// # Errors
+    ///
+    /// A write or a barrier failed. The job is `Broken` then, and no further stage does anything.
     pub fn stage<D: BlockDev>(&mut self, dev: &mut D) -> Result<(), DevFault>
         requires fit { IsFit (D.state dev.old) self.old }
         ensures fit { IsFit (D.state dev.new) self.new }
@@ -123,6 +128,7 @@ impl Kernel {
         ensures history { self.new.history ≡ self.old.history }
         ensures done { OnOk result (self.new ≡ staged self.old self.old.job) }
         ensures broken { OnErr result (self.new.job ≡ Broken) }
+        ensures few { (D.state dev.new).count ≤ (D.state dev.old).count + 8 }
         ensures cause { HasCause (D.state dev.old).write_faults (D.state dev.new).write_faults result }
     {
         match self.job {
@@ -155,6 +161,7 @@ impl Kernel {
         ensures same { self.new ≡ record self.old { log = self.new.log; job = self.new.job } }
         ensures done { OnOk result (self.new ≡ staged self.old Body) }
         ensures broken { OnErr result (self.new.job ≡ Broken) }
+        ensures few { (D.state dev.new).count ≤ (D.state dev.old).count + 8 }
         ensures cause { HasCause (D.state dev.old).write_faults (D.state dev.new).write_faults result }
     {
         // The proof rests on these laws; nothing runs here.
@@ -177,6 +184,7 @@ impl Kernel {
         ensures same { self.new ≡ record self.old { job = self.new.job } }
         ensures done { OnOk result (self.new ≡ staged self.old BodyOut) }
         ensures broken { OnErr result (self.new.job ≡ Broken) }
+        ensures few { (D.state dev.new).count ≤ (D.state dev.old).count + 8 }
         ensures cause { HasCause (D.state dev.old).write_faults (D.state dev.new).write_faults result }
     {
         // The proof rests on these laws; nothing runs here.
@@ -199,6 +207,7 @@ impl Kernel {
         ensures same { self.new ≡ record self.old { log = self.new.log; homes = self.new.homes; ready = self.new.ready; job = self.new.job } }
         ensures done { OnOk result (self.new ≡ staged self.old Head) }
         ensures broken { OnErr result (self.new.job ≡ Broken) }
+        ensures few { (D.state dev.new).count ≤ (D.state dev.old).count + 8 }
         ensures cause { HasCause (D.state dev.old).write_faults (D.state dev.new).write_faults result }
     {
         // The proof rests on these laws; nothing runs here.
@@ -226,6 +235,7 @@ impl Kernel {
         ensures same { OnOk result (self.new ≡ record self.old { job = Idle; committed = self.old.closing }) }
         ensures done { OnOk result (self.new ≡ staged self.old HeadOut) }
         ensures broken { OnErr result (self.new ≡ record self.old { job = Broken }) }
+        ensures few { (D.state dev.new).count ≤ (D.state dev.old).count + 8 }
         ensures cause { HasCause (D.state dev.old).write_faults (D.state dev.new).write_faults result }
     {
         // The proof rests on these laws; nothing runs here.
@@ -247,6 +257,7 @@ impl Kernel {
         ensures same { self.new ≡ record self.old { job = self.new.job } }
         ensures done { OnOk result (self.new ≡ staged self.old (HomesJob put)) }
         ensures broken { OnErr result (self.new.job ≡ Broken) }
+        ensures few { (D.state dev.new).count ≤ (D.state dev.old).count + 8 }
         ensures cause { HasCause (D.state dev.old).write_faults (D.state dev.new).write_faults result }
     {
         // The proof rests on these laws; nothing runs here.
@@ -271,6 +282,7 @@ impl Kernel {
         ensures same { self.new ≡ record self.old { job = self.new.job } }
         ensures done { OnOk result (self.new ≡ staged self.old HomesOut) }
         ensures broken { OnErr result (self.new.job ≡ Broken) }
+        ensures few { (D.state dev.new).count ≤ (D.state dev.old).count + 8 }
         ensures cause { HasCause (D.state dev.old).write_faults (D.state dev.new).write_faults result }
     {
         // The proof rests on these laws; nothing runs here.
@@ -291,6 +303,7 @@ impl Kernel {
         ensures same { self.new ≡ record self.old { log = self.new.log; homes = self.new.homes; job = self.new.job } }
         ensures done { OnOk result (self.new ≡ record self.old { log = advanced self.old.log self.old.log.head; homes = []; job = TailOut }) }
         ensures broken { OnErr result (self.new.job ≡ Broken) }
+        ensures few { (D.state dev.new).count ≤ (D.state dev.old).count + 8 }
         ensures cause { HasCause (D.state dev.old).write_faults (D.state dev.new).write_faults result }
     {
         // The proof rests on these laws; nothing runs here.
@@ -303,7 +316,8 @@ impl Kernel {
         Ok(())
     }
 
-    /// Writes the head sector with both positions at 0; all that is noted is home.
+    /// Writes the head sector with both positions at 0, as `docs/LOG.md` ("In stages") asks from position 2^61 on; all that is noted is
+    /// home.
     pub fn put_restart<D: BlockDev>(&mut self, dev: &mut D) -> Result<(), DevFault>
         requires job { self.old.job ≡ Tail }
         requires fit { IsFit (D.state dev.old) self.old }
@@ -313,6 +327,7 @@ impl Kernel {
         ensures same { self.new ≡ record self.old { log = self.new.log; homes = self.new.homes; job = self.new.job } }
         ensures done { OnOk result (self.new ≡ record self.old { log = restarted self.old.log; homes = []; job = TailOut }) }
         ensures broken { OnErr result (self.new.job ≡ Broken) }
+        ensures few { (D.state dev.new).count ≤ (D.state dev.old).count + 8 }
         ensures cause { HasCause (D.state dev.old).write_faults (D.state dev.new).write_faults result }
     {
         // The proof rests on these laws; nothing runs here.
@@ -334,6 +349,7 @@ impl Kernel {
         ensures same { self.new ≡ record self.old { job = self.new.job } }
         ensures done { OnOk result (self.new ≡ staged self.old TailOut) }
         ensures broken { OnErr result (self.new.job ≡ Broken) }
+        ensures few { (D.state dev.new).count ≤ (D.state dev.old).count + 8 }
         ensures cause { HasCause (D.state dev.old).write_faults (D.state dev.new).write_faults result }
     {
         // The proof rests on these laws; nothing runs here.
@@ -372,6 +388,7 @@ impl Kernel {
         ensures same { self.new ≡ record self.old { job = self.new.job } }
         ensures done { OnOk result (self.new ≡ staged self.old Leave) }
         ensures broken { OnErr result (self.new.job ≡ Broken) }
+        ensures few { (D.state dev.new).count ≤ (D.state dev.old).count + 8 }
         ensures cause { HasCause (D.state dev.old).write_faults (D.state dev.new).write_faults result }
     {
         // The proof rests on these laws; nothing runs here.
@@ -400,6 +417,7 @@ impl Kernel {
         ensures items { OnOk result (self.new.history.items ≡ self.old.history.items ++ event.Unmounted (D.state dev.new).count ∷ []) }
         ensures job { OnOk result (self.new.job ≡ Left) }
         ensures broken { OnErr result (self.new ≡ record self.old { job = Broken }) }
+        ensures few { (D.state dev.new).count ≤ (D.state dev.old).count + 8 }
         ensures cause { HasCause (D.state dev.old).write_faults (D.state dev.new).write_faults result }
     {
         // The proof rests on these laws; nothing runs here.
@@ -457,7 +475,8 @@ impl Kernel {
         self.closing = self.committed;
     }
 
-    /// Answers the call that stands at this place of the history: with success only once all that it makes durable is committed.
+    /// Answers the call that stands at this place of the history: with success only once all that it makes durable is committed
+    /// (`docs/CRASHES.md`, "One stage a turn").
     pub fn ret<D: BlockDev>(&mut self, dev: &D, place: u64, answer: Reply)
         requires fit { IsFit (D.state dev.now) self.old }
         requires free { IsBusy self.old.job → ⊥ }
@@ -495,7 +514,8 @@ impl Kernel {
         });
     }
 
-    /// Frees the blocks that were given up before the committed state, once the log is empty, and notes it.
+    /// Frees the blocks that were given up before the committed state, once the log is empty, and notes it (`docs/CRASHES.md`, "Blocks
+    /// that wait").
     pub fn release<D: BlockDev>(&mut self, dev: &D)
         requires fit { IsFit (D.state dev.now) self.old }
         requires job { self.old.job ≡ Idle }

@@ -1,3 +1,4 @@
+use Rattle.vx_stage.proofs.Counts.{failed_few}
 use Rattle.std.proofs.Common.{false, sym, arith, ◌≡◌, ◌+◌, ◌∙◌, ap, subst, cond, Option, Some, None, []}
 use Rattle.std.specs.Prelude.{◌&&◌, is_some, IfSome, All}
 use Rattle.vx_log.specs.Logs.{LogView, IsClosing, opened, closing_length, has_spare}
@@ -91,3 +92,6 @@ returns-clause-done g c =
     let log_is : c.take_back.new.self ≡ record (opened k.log) { spare = false } = c.take_back.ensures.left ∙ ap (λ (l : LogView). record l { spare = l.spare && is_some l.closing }) opened_is in
     let ready_is : c.take_back.result ≡ Some [] = c.take_back.ensures.batch ∙ ap (λ (l : LogView). cond (has_spare l) (Some []) None) opened_is in
     λ i. record k { log = log_is i; homes = homes_is i; ready = ready_is i; job = jobs.HeadOut }
+
+pub returns-in_err-open_gate-clause-few : goal.returns-in_err-open_gate-clause-few
+returns-in_err-open_gate-clause-few g c = failed_few _ _ _ _ c.in_err-open_gate.ensures.failed

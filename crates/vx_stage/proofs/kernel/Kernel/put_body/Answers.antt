@@ -1,3 +1,4 @@
+use Rattle.vx_stage.proofs.Counts.{body_few, ran_few, broke_few}
 use Rattle.std.proofs.Common.{arith, inl, inr, subst}
 use Rattle.vx_stage.specs.declared.kernel.Job.{Job}
 use Rattle.vx_stage.specs.Kernels.{JobFits}
@@ -34,3 +35,9 @@ pub returns-in_err-out-clause-run : goal.returns-in_err-out-clause-run
 returns-in_err-out-clause-run g c = λ o run.
     let k = c.args.self.now in
     run_with o (g.D.BlockDev.state c.args.dev.now) (g.D.BlockDev.state c.put_next.new.dev) k run (broke_later _ _ _ c.in_err-out.ensures.err) c.put_next.new.self k.homes k.gathered k.ready jobs.Broken k.committed k.closing (omega arith) run.order run.within
+
+pub returns-clause-few : goal.returns-clause-few
+returns-clause-few g c = ran_few _ _ _ (body_few c.args.self.now.log.sectors c.args.self.now.log.head c.args.self.now.log.closing) c.in_ok-out.ensures.ok
+
+pub returns-in_err-out-clause-few : goal.returns-in_err-out-clause-few
+returns-in_err-out-clause-few g c = broke_few _ _ _ (body_few c.args.self.now.log.sectors c.args.self.now.log.head c.args.self.now.log.closing) c.in_err-out.ensures.err

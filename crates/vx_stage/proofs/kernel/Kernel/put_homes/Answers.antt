@@ -1,3 +1,4 @@
+use Rattle.vx_stage.proofs.Counts.{homes_few, ran_few, broke_few}
 use Rattle.std.proofs.Common.{◌≡◌, ◌+◌, length, sym, subst, ℕ, arith}
 use Rattle.std.specs.Prelude.{min}
 use Rattle.vx_dev.specs.Moments.{Told}
@@ -46,3 +47,9 @@ pub returns-in_err-end-clause-run : goal.returns-in_err-end-clause-run
 returns-in_err-end-clause-run g c = λ o run.
     let k = c.args.self.now in
     run_with o (g.D.BlockDev.state c.args.dev.now) (g.D.BlockDev.state c.put_some.new.dev) k run (broke_later _ _ _ c.in_err-end.ensures.broke) k.log k.homes k.gathered k.ready jobs.Broken k.committed k.closing (omega arith) run.order run.within
+
+pub returns-clause-few : goal.returns-clause-few
+returns-clause-few g c = ran_few _ _ _ (homes_few c.args.self.now.homes c.args.put) c.in_ok-end.ensures.ran
+
+pub returns-in_err-end-clause-few : goal.returns-in_err-end-clause-few
+returns-in_err-end-clause-few g c = broke_few _ _ _ (homes_few c.args.self.now.homes c.args.put) c.in_err-end.ensures.broke

@@ -1,3 +1,4 @@
+use Rattle.vx_stage.proofs.Counts.{failed_few}
 use Rattle.std.proofs.Common.{arith, ◌≡◌, ◌∙◌, ap, subst}
 use Rattle.vx_log.specs.Logs.{LogView, restarted}
 use Rattle.vx_stage.specs.declared.kernel.Job.{Job}
@@ -35,3 +36,6 @@ pub returns-in_err-restart-clause-run : goal.returns-in_err-restart-clause-run
 returns-in_err-restart-clause-run g c = λ o run.
     let k = c.args.self.now in
     run_with o (g.D.BlockDev.state c.args.dev.now) (g.D.BlockDev.state c.restart.new.dev) k run (failed_later _ _ _ _ c.in_err-restart.ensures.failed) c.restart.new.self k.homes k.gathered k.ready jobs.Broken k.committed k.closing (omega arith) run.order run.within
+
+pub returns-in_err-restart-clause-few : goal.returns-in_err-restart-clause-few
+returns-in_err-restart-clause-few g c = failed_few _ _ _ _ c.in_err-restart.ensures.failed

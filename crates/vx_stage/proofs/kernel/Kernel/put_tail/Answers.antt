@@ -1,3 +1,4 @@
+use Rattle.vx_stage.proofs.Counts.{failed_few}
 use Rattle.std.proofs.Common.{arith, ◌≡◌, ◌∙◌, ap, subst, ℕ}
 use Rattle.vx_dev.specs.declared.device.Operation.TheVariants.{Put}
 use Rattle.vx_dev.specs.Tape.{Did, Failed}
@@ -39,3 +40,6 @@ pub returns-in_err-advance_tail-clause-run : goal.returns-in_err-advance_tail-cl
 returns-in_err-advance_tail-clause-run g c = λ o run.
     let k = c.args.self.now in
     run_with o (g.D.BlockDev.state c.args.dev.now) (g.D.BlockDev.state c.advance_tail.new.dev) k run (failed_later _ _ _ _ c.in_err-advance_tail.ensures.failed) c.advance_tail.new.self k.homes k.gathered k.ready jobs.Broken k.committed k.closing (omega arith) run.order run.within
+
+pub returns-in_err-advance_tail-clause-few : goal.returns-in_err-advance_tail-clause-few
+returns-in_err-advance_tail-clause-few g c = failed_few _ _ _ _ c.in_err-advance_tail.ensures.failed
