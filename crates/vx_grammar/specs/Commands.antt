@@ -21,6 +21,10 @@ abbrev pub need : {X Y : Type 0} → Why → Option X → (X → Result Y Why) �
 need w None later = Err w
 need w (Some x) later = later x
 
+-- the greatest number of bytes that one call reads or writes
+abbrev pub most_len : ℕ
+most_len = 65536
+
 -- ---- so many words
 
 abbrev pub one_of : List Word → Option Word
@@ -66,14 +70,14 @@ open_words words = need why.Words (three_of words) (λ w.
 
 abbrev pub read_words : List Word → Asked
 read_words words = need why.Words (three_of words) (λ w.
-    need why.Number (handle_of w.0) (λ h. need why.Number (number_of 0 far w.1) (λ o. need why.Number (number_of 1 65536 w.2) (λ n. Ok (call.Read h o n)))))
+    need why.Number (handle_of w.0) (λ h. need why.Number (number_of 0 far w.1) (λ o. need why.Number (number_of 1 most_len w.2) (λ n. Ok (call.Read h o n)))))
 
 abbrev pub truncate_words : List Word → Asked
 truncate_words words = need why.Words (two_of words) (λ w. need why.Number (handle_of w.0) (λ h. need why.Number (number_of 0 far w.1) (λ n. Ok (call.Truncate h n))))
 
 -- 1 to 65,536 bytes
 abbrev pub few_bytes : List ℕ → Option (List ℕ)
-few_bytes bytes = if nat_le 1 (length bytes) && nat_le (length bytes) 65536 then Some bytes else None
+few_bytes bytes = if nat_le 1 (length bytes) && nat_le (length bytes) most_len then Some bytes else None
 
 abbrev pub hex_words : (handle offset : Word) → Word → Asked
 hex_words handle offset content =
@@ -85,7 +89,7 @@ text_words handle offset content =
 
 abbrev pub fill_words : (handle offset : Word) → (byte len : Word) → Asked
 fill_words handle offset byte len =
-    need why.Number (handle_of handle) (λ h. need why.Number (number_of 0 far offset) (λ o. need why.Number (byte_of byte) (λ b. need why.Number (number_of 1 65536 len) (λ n. Ok (call.Write h o (payload.Fill b n))))))
+    need why.Number (handle_of handle) (λ h. need why.Number (number_of 0 far offset) (λ o. need why.Number (byte_of byte) (λ b. need why.Number (number_of 1 most_len len) (λ n. Ok (call.Write h o (payload.Fill b n))))))
 
 unfoldable pub write_words : List Word → Asked
 write_words (handle ∷ offset ∷ kind ∷ content ∷ []) =

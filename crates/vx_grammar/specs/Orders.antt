@@ -47,6 +47,9 @@ pub record IsLowestStuck (lines : List (List Call)) (number_of : (session before
 
 -- ---- how far every session can come
 
+abbrev pub most_sessions : ℕ
+most_sessions = 16
+
 -- the line is there, and it waits for no more lines than these
 abbrev pub is_met_by : (ℕ → ℕ) → Option Call → Bool
 is_met_by so_far None = false

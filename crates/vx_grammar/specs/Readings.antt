@@ -12,6 +12,7 @@ use Rattle.vx_grammar.specs.declared.why.LineFault.TheVariants.{Bad, OutOfMemory
 use Rattle.vx_grammar.specs.Lines.{lines_of}
 use Rattle.vx_grammar.specs.Words.{Word, is_word, is_skipped, words_of, number_of}
 use Rattle.vx_grammar.specs.Commands.{need, command_call}
+use Rattle.vx_grammar.specs.Orders.{most_sessions}
 use Rattle.vx_grammar.specs.Forms.{IsScriptCall}
 use Rattle.vx_grammar.specs.declared.reader.Command.{Command}
 
@@ -39,7 +40,7 @@ unless_bad (Ok x) later = later x
 -- ---- the line of sessions
 
 abbrev pub sessions_of : List Word → Option ℕ
-sessions_of (name ∷ number ∷ []) = if is_word name (codes "sessions") then number_of 1 16 number else None
+sessions_of (name ∷ number ∷ []) = if is_word name (codes "sessions") then number_of 1 most_sessions number else None
 sessions_of _ = None
 
 abbrev pub with_sessions : Reading → List Word → Read
@@ -83,6 +84,10 @@ list_count _ = 0
 
 abbrev pub most_lines : ℕ
 most_lines = 65536
+
+-- one line is that of the sessions
+abbrev pub most_calls : ℕ
+most_calls = 65535
 
 abbrev pub most_read : ℕ
 most_read = 4194304
@@ -174,7 +179,7 @@ AreBelow bound None = Unit {0}
 AreBelow bound (Some actors) = All (λ actor. actor < bound) actors
 
 pub record IsWithin (r : Reading) : Type 0 where
-  pub few_sessions : r.sessions ≤ 16
+  pub few_sessions : r.sessions ≤ most_sessions
   pub read_few : r.read_sum ≤ most_read
   pub wrote_few : r.write_sum ≤ most_written
   pub few_lists : r.lists ≤ most_lists
@@ -204,9 +209,9 @@ pub record IsSound (r : Reading) (number : ℕ) : Type 0 where
 pub record IsWhole (r : Reading) : Type 0 where
   pub within : IsWithin r
   pub counted : IsCounted r
-  pub few_calls : length r.commands ≤ 65535
+  pub few_calls : length r.commands ≤ most_calls
   pub some : 1 ≤ r.sessions
-  pub rising : RisesTo 0 65537 (map (λ c. c.number) r.commands)
+  pub rising : RisesTo 0 (most_lines + 1) (map (λ c. c.number) r.commands)
 
 -- the refusal of a line
 abbrev pub refusal_of : (number : ℕ) → LineFault → ScriptRefusal

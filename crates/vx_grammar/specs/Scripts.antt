@@ -1,14 +1,13 @@
 -- What a script is, and why it is refused.
-use Rattle.std.specs.Prelude.{◌≡◌, ℕ, All, ◌==◌, ◌<◌, ◌≤◌, nat_lt, if◌then◌else◌, Bool, List, [], length, map, filter, sum_by, slice_get, unwrap_or, Option, Some, None, Ok, Err}
+use Rattle.std.specs.Prelude.{◌≡◌, ℕ, ◌+◌, All, ◌==◌, ◌<◌, ◌≤◌, nat_lt, if◌then◌else◌, Bool, List, [], length, map, filter, sum_by, slice_get, unwrap_or, Option, Some, None, Ok, Err}
 use Rattle.vx_base.specs.declared.call.Call.{Call}
-use Rattle.vx_grammar.specs.Orders.{below}
-use Rattle.vx_grammar.specs.Orders.{HasOrder, IsLowestStuck}
+use Rattle.vx_grammar.specs.Orders.{below, most_sessions, HasOrder, IsLowestStuck}
 use Rattle.vx_grammar.specs.declared.why.ScriptRefusal.{ScriptRefusal}
 use Rattle.vx_grammar.specs.declared.why.ScriptRefusal.TheVariants.{TooLong, BadLine, BadOrder, NoMemory}
 use Rattle.vx_grammar.specs.declared.reader.Command.{Command}
 use Rattle.vx_grammar.specs.declared.script.Script.{Script}
 use Rattle.vx_grammar.specs.Forms.{IsScriptCall}
-use Rattle.vx_grammar.specs.Readings.{Reading, reading_of, AreBelow, RisesTo, most_read, most_written, most_lists, read_bytes, written_bytes, list_count}
+use Rattle.vx_grammar.specs.Readings.{Reading, reading_of, AreBelow, RisesTo, most_lines, most_calls, most_read, most_written, most_lists, read_bytes, written_bytes, list_count}
 
 -- ---- by sessions
 
@@ -42,11 +41,11 @@ sum_over term lines = sum_by (λ calls. sum_by term calls) lines
 -- what every script has: 1 to 16 sessions, which alone its schedule names; calls that a line can ask for, and no more of them than the limits allow; and an order of all lines
 pub record IsScript (script : Script) : Type 0 where
   pub some : 1 ≤ script.sessions
-  pub few_sessions : script.sessions ≤ 16
+  pub few_sessions : script.sessions ≤ most_sessions
   pub actors : AreBelow script.sessions script.schedule
   pub count : length script.lines ≡ script.sessions
   pub each : All (λ calls. All (IsScriptCall script.sessions) calls) script.lines
-  pub few_calls : sum_by (λ calls. length calls) script.lines ≤ 65535
+  pub few_calls : sum_by (λ calls. length calls) script.lines ≤ most_calls
   pub read_few : sum_over read_bytes script.lines ≤ most_read
   pub wrote_few : sum_over written_bytes script.lines ≤ most_written
   pub few_lists : sum_over list_count script.lines ≤ most_lists
@@ -100,4 +99,4 @@ IsLeastOf value bound (Some n) = ((s : ℕ) × (value s ≡ Some n)) × ((s m : 
 -- each line has its number, and those of a session rise
 pub record AreLinesNumbered (lines : List (List Call)) (numbers : List (List ℕ)) : Type 0 where
   pub same : (session : ℕ) → length (unwrap_or (slice_get numbers session) []) ≡ length (unwrap_or (slice_get lines session) [])
-  pub rising : (session : ℕ) → RisesTo 0 65537 (unwrap_or (slice_get numbers session) [])
+  pub rising : (session : ℕ) → RisesTo 0 (most_lines + 1) (unwrap_or (slice_get numbers session) [])

@@ -1,4 +1,4 @@
-//! The grammar of a script.
+//! The grammar of scripts, and the order of their lines.
 #![tactic(auto)]
 
 mod commands;

@@ -1,7 +1,7 @@
 //! The lowest line of a script that can never begin.
 ghost use Rattle.std.specs.Prelude.{◌≡◌, ◌≤◌, ℕ, length, slice_index, MatchOption};
 ghost use Rattle.vx_base.specs.Lines.{lines_of};
-ghost use Rattle.vx_grammar.specs.Orders.{so_far, HasOrder, IsLowestStuck};
+ghost use Rattle.vx_grammar.specs.Orders.{most_sessions, so_far, HasOrder, IsLowestStuck};
 ghost use Rattle.vx_grammar.specs.Scripts.{number_at, lower_of, IsLeastOf, AreLinesNumbered};
 
 use crate::groups::{Grouped, NumberLists};
@@ -10,7 +10,7 @@ use vx_base::LineLists;
 
 /// The number of the lowest line that can never begin; none where the lines have an order.
 pub fn lowest_stuck(grouped: &Grouped) -> Option<u32>
-    requires few { length grouped.now.lines ≤ 16 }
+    requires few { length grouped.now.lines ≤ most_sessions }
     requires numbered { AreLinesNumbered grouped.now.lines grouped.now.numbers }
     ensures { MatchOption result (HasOrder grouped.now.lines) (λ line. IsLowestStuck grouped.now.lines (number_at grouped.now.numbers) line) }
 {
@@ -25,7 +25,7 @@ fn least_left(
     left: &[usize; MOST_SESSIONS],
 ) -> Option<u32>
     requires { (session : ℕ) → slice_index left.now session ≤ length (lines_of lines.now session) }
-    ensures { IsLeastOf (λ s. number_at numbers.now s (so_far lines.now left.now s)) 16 result }
+    ensures { IsLeastOf (λ s. number_at numbers.now s (so_far lines.now left.now s)) most_sessions result }
 {
     let mut least = None;
     'sessions: for session in 0..MOST_SESSIONS {

@@ -13,7 +13,7 @@ use vx_base::{Bytes, LineLists};
 
 const MOST_BYTES: usize = 4_194_304;
 
-/// The lines of each session, and the schedule that begins their turns.
+/// A script: the calls of each session, and the sessions whose turns come first, if it has a schedule (docs/SCRIPT.md).
 #[derive(Debug, Drop)]
 pub struct Script {
     pub sessions: u8,
@@ -21,7 +21,9 @@ pub struct Script {
     pub lines: LineLists,
 }
 
-/// Reads a script. Its first bad line is refused, or the lowest line that can never begin.
+/// Reads the bytes of a script (docs/SCRIPT.md).
+///
+/// A script of more than 4,194,304 bytes is refused as `TooLong`, else its first bad line with the first why of it, else, where no order takes all lines, the lowest line that can never begin.
 pub fn parse(alloc: Global, bytes: &[u8]) -> Result<Script, ScriptRefusal>
     ensures ok { IfOk result (λ script. IsScriptIn bytes.now script) }
     ensures err { IfErr result (λ why. IsRefusedFor bytes.now why) }
