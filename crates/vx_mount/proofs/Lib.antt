@@ -1,0 +1,4 @@
+pub mod Stepping
+pub mod Going
+pub mod Growing
+pub mod Taking
