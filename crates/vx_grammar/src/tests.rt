@@ -14,6 +14,17 @@ fn bytes(alloc: Global, text: &[u8]) -> Result<Bytes, AllocError> {
 }
 
 #[test]
+fn reads_four_lines(rt: HostRuntime) -> Result<(), Fail> {
+    let text = b"sessions 1\n0 create /a 644\n0 list /\n0 create /a 600\n0 stat /\n";
+    let Ok(script) = parse(rt.alloc(), text) else {
+        return Err(Fail::from("refused"));
+    };
+    assert!(rt; script.sessions == 1 && script.schedule.is_none());
+    assert!(rt; script.lines.len() == 1 && script.lines.count(0) == 4);
+    Ok(())
+}
+
+#[test]
 fn reads_a_script(rt: HostRuntime) -> Result<(), Fail> {
     let alloc = rt.alloc();
     let text =
