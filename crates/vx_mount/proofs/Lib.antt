@@ -2,3 +2,4 @@ pub mod Stepping
 pub mod Going
 pub mod Growing
 pub mod Taking
+pub mod Single

@@ -7,3 +7,6 @@ mod turns;
 
 pub use driver::{drive, unmount};
 pub use turns::{Turn, Turns};
+
+#[cfg(test)]
+mod tests;
