@@ -1,0 +1,14 @@
+pub mod Splits
+pub mod Escapes
+pub mod Parts
+pub mod HexDigits
+pub mod NumberLaws
+pub mod FlagNames
+pub mod Actors
+pub mod FormLaws
+pub mod ReadingLaws
+pub mod Grouping
+pub mod SumLaws
+pub mod Going
+pub mod Ordering
+pub mod LeastNumbers

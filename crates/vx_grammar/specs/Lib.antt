@@ -1,0 +1,9 @@
+pub mod Lines
+pub mod Words
+pub mod Keywords
+pub mod Commands
+pub mod Faults
+pub mod Forms
+pub mod Readings
+pub mod Orders
+pub mod Scripts

@@ -1,0 +1,9 @@
+use Rattle.vx_mount.proofs.Stepping.{TakesRounds}
+use Rattle.vx_mount.proofs.driver.drive.Given as goal
+
+-- so many rounds
+abbrev pub invariant-rounds : goal.invariant-rounds
+invariant-rounds g l = TakesRounds (g.T.Turns.view l.initial.core) (g.T.Turns.view l.core)
+
+abbrev pub decreases-rounds : goal.decreases-rounds
+decreases-rounds g l = g.T.Turns.work l.core

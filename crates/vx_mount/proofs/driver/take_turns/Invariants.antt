@@ -1,0 +1,7 @@
+use Rattle.std.proofs.Common.{take}
+use Rattle.vx_mount.specs.Cores.{TakesTurns}
+use Rattle.vx_mount.proofs.driver.take_turns.Given as goal
+
+-- the turns so far
+abbrev pub invariant-schedule : goal.invariant-schedule
+invariant-schedule g l = TakesTurns (g.T.Turns.view l.initial.core) (take l.actor-index l.actors) (g.T.Turns.view l.core)

@@ -1,0 +1,9 @@
+use Rattle.vx_mount.specs.Cores.{UnmountsOn}
+use Rattle.vx_mount.proofs.driver.take_unmount_turns.Given as goal
+
+-- the unmount's turns so far
+abbrev pub invariant-turns : goal.invariant-turns
+invariant-turns g l = UnmountsOn (g.T.Turns.view l.initial.core) (g.T.Turns.view l.core)
+
+abbrev pub decreases-turns : goal.decreases-turns
+decreases-turns g l = g.T.Turns.work l.core
