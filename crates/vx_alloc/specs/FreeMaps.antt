@@ -1,6 +1,7 @@
 -- The free blocks of allocation units, and which of them a call takes.
 use Rattle.std.specs.Prelude.{◌≡◌, ℕ, zero, suc, ◌+◌, ◌-◌, ◌*◌, ◌/◌, ◌%◌, ◌<◌, ◌≤◌, max, Bool, true, false, not, ◌&&◌, ◌||◌, ◌⊎◌, nat_eq, nat_lt, nat_le, if◌then◌else◌, Option, Some, None, is_some, List, ◌++◌, map, length, replicate, take, slice_index_or, slice_set}
 use Rattle.std.specs.List.{range_with_len}
+use Rattle.vx_base.specs.Rules.{is_data_block}
 
 -- each unit has 4096 blocks, and its data blocks are the last `per_unit` of them
 pub record FreeMapView : Type 0 where
@@ -25,8 +26,7 @@ abbrev pub place_in_unit : FreeMapView → ℕ → ℕ
 place_in_unit view b = (b - view.first) % 4096
 
 abbrev pub is_data : FreeMapView → ℕ → Bool
-is_data view b =
-    nat_le view.first b && (nat_lt (b - view.first) (4096 * view.units) && nat_le (4096 - view.per_unit) (place_in_unit view b))
+is_data view b = is_data_block view.first view.units (4096 - view.per_unit) b
 
 abbrev pub is_at_or_past : Option ℕ → ℕ → Bool
 is_at_or_past None unit = false

@@ -1,11 +1,13 @@
 //! The lines of the sessions of a script.
-ghost use Rattle.std.specs.Prelude.{◌≡◌, [], ◌++◌, ◌∷◌, length, OnOk, OnErr};
+ghost use Rattle.std.specs.Prelude.{◌≡◌, ◌<◌, [], ◌++◌, ◌∷◌, length, set, Some, IfNone, IfSome, OnOk, OnErr};
 ghost use Rattle.std.specs.Option.{option_copied};
 ghost use Rattle.vx_base.specs.Lines.{lines_of, line_after};
+ghost use Rattle.vx_base.specs.declared.call.Call.TheVariants as call;
 
 use crate::call::Call;
 use std::alloc::{AllocError, Global};
 use std::marker::Model;
+use std::mem;
 
 /// A list with one list of calls per session.
 #[derive(Debug, Drop)]
@@ -68,5 +70,23 @@ impl LineLists {
     {
         self.lists.push(lines)?;
         Ok(())
+    }
+
+    /// Moves the line of a session that comes after so many out of the list, and leaves a `sync` in its place.
+    #[tactic(auto, unfolding(crate::specs::Lines::lines_of, crate::specs::Lines::line_after))]
+    pub fn take(&mut self, session: usize, answered: usize) -> Call
+        requires { answered < length (lines_of self.old session) }
+        ensures line { line_after self.old session answered ≡ Some result }
+        ensures left { self.new ≡ set self.old session (set (lines_of self.old session) answered call.Sync) }
+    {
+        mem::replace(&mut self.lists[session][answered], Call::Sync)
+    }
+
+    /// Takes the last session off; none where there is no session.
+    pub fn pop(&mut self) -> Option<Vec<Call>>
+        ensures some { IfSome result (λ lines. self.old ≡ self.new ++ lines.items ∷ []) }
+        ensures none { IfNone result (self.old ≡ []) }
+    {
+        self.lists.pop()
     }
 }

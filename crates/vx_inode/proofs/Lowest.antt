@@ -6,12 +6,13 @@ use Rattle.std.proofs.lemmas.Bool.{cases_eq, cases_lt}
 use Rattle.std.proofs.lemmas.Bool.Decides.{nat_tests}
 use Rattle.vx_inode.specs.declared.table.MakeRefusal.TheVariants.{NoInodes}
 use Rattle.vx_base.specs.declared.kind.FileKind.TheVariants.{File}
-use Rattle.vx_inode.specs.Tables.{Inodes, Table, inode_at, is_used, lowest_from, is_full, make_answer, new_inode, IsKept}
+use Rattle.vx_inode.specs.Tables.{Inodes, Table, inode_at, is_used, is_full, make_answer, new_inode, IsKept}
+use Rattle.vx_base.specs.Rules.{lowest_absent}
 use Rattle.vx_inode.proofs.Counts.{len_more, len_within, len_all}
 use Rattle.vx_inode.proofs.Kept.{kept_with}
 
 -- the search ends at the first unused number
-search_ends : (inodes : Inodes) (fuel from next : ℕ) → from ≤ next → next < from + fuel → ((q : ℕ) → from ≤ q → q < next → is_some (map.get inodes q) ≡ true) → map.get inodes next ≡ None → lowest_from inodes fuel from ≡ next
+search_ends : (inodes : Inodes) (fuel from next : ℕ) → from ≤ next → next < from + fuel → ((q : ℕ) → from ≤ q → q < next → is_some (map.get inodes q) ≡ true) → map.get inodes next ≡ None → lowest_absent inodes fuel from ≡ next
 search_ends inodes zero from next low high used none = absurd (omega arith)
 search_ends inodes (suc more) from next low high used none = elim (cases_eq from next) [
   | inl here ↦ let unused : is_some (map.get inodes from) ≡ false = ap (λ q. is_some (map.get inodes q)) here ∙ ap is_some none in rw unused here

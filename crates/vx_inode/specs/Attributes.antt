@@ -1,12 +1,9 @@
 -- The rules of a file's attributes.
-use Rattle.std.specs.Prelude.{ℕ, ◌*◌, ◌^◌, Bool, ◌&&◌, ◌||◌, not, ◌==◌, nat_lt, if◌then◌else◌, bit_and, Result, Ok, Err}
+use Rattle.std.specs.Prelude.{ℕ, ◌*◌, Bool, ◌&&◌, ◌||◌, not, ◌==◌, nat_lt, if◌then◌else◌, bit_and, Result, Ok, Err}
 use Rattle.vx_base.specs.declared.call.ExtAttrs.{ExtAttrs}
 use Rattle.vx_base.specs.declared.geom.Geom.{Geom}
+pub use Rattle.vx_base.specs.Rules.{layout1}
 use Rattle.vx_inode.specs.declared.attributes.BadAttr.{BadAttr}
-
--- layout 1: blocks of 1,024 bytes and files of up to 64 MiB
-abbrev pub layout1 : Geom
-layout1 = record { block = 1024; per_unit = 4063; maps = 64; dirs = 64; limit = 2 ^ 26 }
 
 -- the flags are 1 align, 2 contig, 4 noextend, 8 noreserve, 16 trim, 32 chgsize
 abbrev pub has_flag : ExtAttrs → ℕ → Bool

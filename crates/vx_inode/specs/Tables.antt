@@ -1,9 +1,10 @@
 -- Inodes by their numbers.
-use Rattle.std.specs.Prelude.{◌≡◌, ℕ, zero, suc, ◌+◌, ◌-◌, ◌*◌, ◌<◌, ◌≤◌, Bool, ◌==◌, if◌then◌else◌, IsTrue, Option, Some, None, is_some, Result, Ok, Err}
+use Rattle.std.specs.Prelude.{◌≡◌, ℕ, ◌-◌, ◌*◌, ◌<◌, ◌≤◌, Bool, ◌==◌, if◌then◌else◌, IsTrue, Option, Some, None, is_some, Result, Ok, Err}
 use Rattle.std.specs.Ordering.{nat_cmp}
 use Rattle.std.specs.FinMap as map
 use Rattle.vx_base.specs.declared.kind.FileKind.{FileKind}
 use Rattle.vx_base.specs.declared.inode.Inode.{Inode}
+use Rattle.vx_base.specs.Rules.{lowest_unused}
 use Rattle.vx_inode.specs.declared.table.MakeRefusal.{MakeRefusal}
 use Rattle.vx_inode.specs.declared.table.MakeRefusal.TheVariants.{NoInodes}
 use Rattle.vx_inode.specs.declared.table.TooManyLinks.{TooManyLinks}
@@ -40,22 +41,13 @@ with_change t ino change = changed_from t ino change (inode_at t ino)
 
 -- ---- a new inode
 
--- the lowest number from `from` on, within so many, that is unused
-abbrev pub lowest_from : Inodes → ℕ → ℕ → ℕ
-lowest_from inodes zero from = from
-lowest_from inodes (suc more) from = if map.contains_key inodes from then lowest_from inodes more (from + 1) else from
-
--- the lowest unused number from 3
-abbrev pub lowest_unused : Table → ℕ
-lowest_unused t = lowest_from t.inodes (128 * t.units) 3
-
 -- there are as many inodes as numbers, without 0 and 1, which are never used
 abbrev pub is_full : Table → Bool
 is_full t = map.len t.inodes == 128 * t.units - 2
 
 -- what a make is answered, but for want of memory
 abbrev pub make_answer : Table → Result ℕ MakeRefusal
-make_answer t = if is_full t then Err (NoInodes (128 * t.units - 2)) else Ok (lowest_unused t)
+make_answer t = if is_full t then Err (NoInodes (128 * t.units - 2)) else Ok (lowest_unused t.units t.inodes)
 
 -- one name, size 0 and no attributes
 abbrev pub new_inode : FileKind → ℕ → Inode

@@ -18,13 +18,14 @@ record IsData (v : Volume) (b : ℕ) : Type 0 where
 data_parts : (v : Volume) (b : ℕ) → IsTrue (is_data v b) → IsData v b
 unfolding is_data
 data_parts v b h =
-    let two = and_parts _ _ h in
-    let one = and_parts _ _ two.0 in
-    record { from = leb-true _ _ one.0; unit = ltb-true _ _ one.1; past = leb-true _ _ two.1 }
+    let one = and_parts _ _ h in
+    let two = and_parts _ _ one.1 in
+    let within : b - v.first < 4096 * v.units = ltb-true _ _ two.0 in
+    record { from = leb-true _ _ one.0; unit = omega (arith, within); past = leb-true _ _ two.1 }
 
 data_from : (v : Volume) (b : ℕ) → IsData v b → IsTrue (is_data v b)
 unfolding is_data
-data_from v b d = and_from _ _ (and_from _ _ (le-leb _ _ d.from) (lt-ltb _ _ d.unit)) (le-leb _ _ d.past)
+data_from v b d = and_from _ _ (le-leb _ _ d.from) (and_from _ _ (lt-ltb _ _ (let within : b - v.first < 4096 * v.units = omega (arith, d.unit) in within)) (le-leb _ _ d.past))
 
 -- the block at i of unit u
 pub data_in_unit : (v : Volume) (u i : ℕ) → u < v.units → i < 4096 → first_data (per_block v) ≤ i → IsTrue (is_data v (unit_block v u + i))

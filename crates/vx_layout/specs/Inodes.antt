@@ -1,7 +1,7 @@
 -- How an inode is spelled, in 256 bytes.
-use Rattle.std.specs.Prelude.{◌≡◌, ℕ, ◌+◌, ◌-◌, ◌*◌, ◌/◌, ◌%◌, ◌<◌, ◌≤◌, ◌^◌, Bool, true, false, ◌==◌, ◌&&◌, ◌||◌, nat_le, nat_lt, if◌then◌else◌, bit_and, IsTrue, List, [], ◌∷◌, ◌++◌, length, replicate, take, drop, slice_index, Option, Some, None, unwrap_or, is_some, IfSome}
+use Rattle.std.specs.Prelude.{◌≡◌, ℕ, ◌+◌, ◌*◌, ◌%◌, ◌<◌, ◌≤◌, ◌^◌, Bool, true, false, ◌==◌, ◌&&◌, ◌||◌, nat_le, nat_lt, if◌then◌else◌, bit_and, IsTrue, List, [], ◌∷◌, ◌++◌, length, replicate, take, drop, slice_index, Option, Some, None, unwrap_or, is_some, IfSome}
 use Rattle.std.specs.Str.{bytes_eq}
-use Rattle.std.specs.Int.{w16, w32, w64, to_le_bytes, div_ceil}
+use Rattle.std.specs.Int.{w16, w32, w64, to_le_bytes}
 use Rattle.std.specs.List.{flat_map, list_all}
 use Rattle.vx_base.specs.declared.kind.FileKind.{FileKind}
 use Rattle.vx_base.specs.declared.kind.FileKind.TheVariants.{File, Directory}
@@ -12,6 +12,8 @@ use Rattle.vx_base.specs.declared.inode.InodeValue.{InodeValue}
 use Rattle.vx_base.specs.declared.inode.Inode.{Inode}
 use Rattle.vx_base.specs.declared.call.ExtAttrs.{ExtAttrs}
 use Rattle.vx_base.specs.declared.geom.Geom.{Geom}
+use Rattle.vx_base.specs.Rules.{chain_len}
+pub use Rattle.vx_base.specs.Rules.{layout1, places_each, extents_limit}
 use Rattle.vx_layout.specs.Fields.{number_at}
 
 abbrev pub kind_number : Kind → ℕ
@@ -48,10 +50,6 @@ slot_bytes (Some v) = inode_bytes v
 abbrev pub half_of : List ℕ → ℕ → List ℕ
 half_of s half = take 256 (drop (256 * half) s)
 
--- layout 1: blocks of 1,024 bytes and files of up to 64 MiB
-abbrev pub layout1 : Geom
-layout1 = record { block = 1024; per_unit = 4063; maps = 64; dirs = 64; limit = 2 ^ 26 }
-
 -- ---- which values an inode's own bytes say; that its extents are in order, and that they and a directory's size fit its blocks,
 -- is a rule of the whole list of them
 
@@ -70,17 +68,9 @@ attrs_fit g i =
     else nat_le i.size g.limit && (nat_le i.attrs.fixed g.per_unit && (nat_le i.attrs.reserve 65536
     && (nat_le (i.attrs.reserve * g.block) g.limit && (bit_and i.attrs.flags 8 == 0 || i.attrs.reserve == 0))))
 
--- the places for extents in a map block
-abbrev pub places_each : Geom → ℕ
-places_each g = g.block / 16 - 1
-
--- six extents in the inode, and as many in each map block as it has room for
-abbrev pub extents_limit : Geom → ℕ
-extents_limit g = 6 + g.maps * places_each g
-
--- the map blocks that so many extents need: all but the last are full
+-- the map blocks that so many extents need
 abbrev pub maps_needed : Geom → ℕ → ℕ
-maps_needed g extents = if nat_le extents 6 then 0 else div_ceil (extents - 6) (places_each g)
+maps_needed g extents = chain_len (places_each g) extents
 
 -- an extent has a block at least
 abbrev pub has_length : Extent → Bool

@@ -1,5 +1,6 @@
 -- What each sector of a volume is there for, and where each thing stands.
-use Rattle.std.specs.Prelude.{◌≡◌, ◌⊎◌, ℕ, ◌+◌, ◌-◌, ◌*◌, ◌/◌, ◌%◌, ◌<◌, ◌≤◌, Bool, true, false, IsTrue, ◌==◌, ◌&&◌, nat_lt, nat_le, if◌then◌else◌, List, take, drop}
+use Rattle.std.specs.Prelude.{◌≡◌, ◌⊎◌, ℕ, ◌+◌, ◌-◌, ◌*◌, ◌/◌, ◌%◌, ◌<◌, ◌≤◌, Bool, true, false, IsTrue, ◌==◌, nat_lt, nat_le, if◌then◌else◌, List, take, drop}
+use Rattle.vx_base.specs.Rules.{is_data_block}
 use Rattle.vx_layout.specs.declared.volume.Volume.{Volume as Sizes}
 
 -- bytes in a block, the block where unit 0 starts, the number of units
@@ -42,8 +43,7 @@ abbrev pub first_data : ℕ → ℕ
 first_data per_block = 1 + 64 / per_block
 
 unfoldable pub is_data : Volume → ℕ → Bool
-is_data v b =
-    nat_le v.first b && nat_lt ((b - v.first) / 4096) v.units && nat_le (first_data (per_block v)) ((b - v.first) % 4096)
+is_data v b = is_data_block v.first v.units (first_data (per_block v)) b
 
 -- what a sector is there for: a unit's bitmap, the inodes 2 pair and 2 pair + 1, the index-th sector of a data block
 pub data Place : Type 0 where
