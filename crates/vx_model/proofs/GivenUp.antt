@@ -337,6 +337,10 @@ module _ (s : State) (place : ℕ) where
   step_waits session (call.Chmod path mode) done h = of_step done (chmod s path mode) h (chmod_waits path mode)
   step_waits session (call.Stat path) done h = of_step done (stat s path) h (stat_waits path)
   step_waits session (call.List path) done h = of_step done (list s path) h (list_waits path)
+  step_waits session call.Sync done h = of_step done (Ok (fine s)) h (waits_same place s s refl)
+  step_waits session call.Tick done h = of_step done (Ok (fine s)) h (waits_same place s s refl)
+  step_waits session (call.After other lines) done h = of_step done (Ok (fine s)) h (waits_same place s s refl)
+  step_waits session call.Stop done h = of_step done (Ok (fine s)) h (waits_same place s s refl)
   step_waits session _ done h = absurd cc
 
 -- ---- what is free

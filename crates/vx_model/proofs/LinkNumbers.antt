@@ -25,7 +25,7 @@ use Rattle.vx_model.specs.NameLaws.{meaning_in, lookup, names_in, name_count, li
 use Rattle.vx_model.proofs.Unused.{unused_low, unused_free}
 use Rattle.vx_model.proofs.GivenUp.{step_waits}
 use Rattle.vx_model.proofs.Histories.{settled_keeps, kept_all}
-use Rattle.vx_model.proofs.Replies.{stat_leaves, list_leaves}
+use Rattle.vx_model.proofs.Replies.{stat_leaves, list_leaves, mount_leaves}
 use Rattle.vx_model.proofs.Lookups.{node_gone, node_stays}
 use Rattle.vx_model.proofs.Successes.{adds, Makes, makes, unlinks, removes_directory, Links, links, modes, Onto, nothing, itself, directory, file, renames}
 use Rattle.vx_model.proofs.NameChanges.{same_directory, named_directory, file_leaf, empty_leaf, not_leaf, removed_nodes, remove_stays, unlinked_touches, unlinked_left, drop_touches, entered, clears_nothing, clears_target, target_means}
@@ -260,6 +260,10 @@ module _ (s : State) (o : Owes s.tree.nodes (128 * s.layout.units) no_more) wher
   step_owes place session (call.Chmod path mode) done h = settled_keeps s Kept (chmod s path mode) done o h (chmod_owes path mode done)
   step_owes place session (call.Stat path) done h = subst Kept (sym (stat_leaves s place session path done h)) o
   step_owes place session (call.List path) done h = subst Kept (sym (list_leaves s place session path done h)) o
+  step_owes place session call.Sync done h = subst Kept (sym (mount_leaves s done h)) o
+  step_owes place session call.Tick done h = subst Kept (sym (mount_leaves s done h)) o
+  step_owes place session (call.After other lines) done h = subst Kept (sym (mount_leaves s done h)) o
+  step_owes place session call.Stop done h = subst Kept (sym (mount_leaves s done h)) o
   step_owes place session _ done h = absurd cc
 
 pub step_links : (s : State) (place session : ℕ) (c : Call) (done : Done) → HasLinks s → step s place session c ≡ Some done → HasLinks done.state

@@ -24,7 +24,7 @@ use Rattle.vx_model.specs.Step.{step}
 use Rattle.vx_model.specs.Legal.{opening, after_all}
 use Rattle.vx_model.specs.NameLaws.{meaning_in, lookup, IsRemoved, link_number, HasLinks, HasNoLoops}
 use Rattle.vx_model.proofs.Unused.{unused_free}
-use Rattle.vx_model.proofs.Replies.{stat_leaves, list_leaves}
+use Rattle.vx_model.proofs.Replies.{stat_leaves, list_leaves, mount_leaves}
 use Rattle.vx_model.proofs.Histories.{settled_keeps, kept_all}
 use Rattle.vx_model.proofs.Lookups.{cases_entry, IsNamed, set_same, walk_first, walk_append, walk_ends}
 use Rattle.vx_model.proofs.Successes.{Makes, makes, Links, links, modes, Renames, renames}
@@ -262,6 +262,10 @@ module _ (s : State) (is : HasLinks s) (none : HasNoLoops s.tree.nodes) where
   step_loops place session (call.Chmod path mode) done h = settled_keeps s Kept (chmod s path mode) done none h (chmod_loops path mode done)
   step_loops place session (call.Stat path) done h = subst Kept (sym (stat_leaves s place session path done h)) none
   step_loops place session (call.List path) done h = subst Kept (sym (list_leaves s place session path done h)) none
+  step_loops place session call.Sync done h = subst Kept (sym (mount_leaves s done h)) none
+  step_loops place session call.Tick done h = subst Kept (sym (mount_leaves s done h)) none
+  step_loops place session (call.After other lines) done h = subst Kept (sym (mount_leaves s done h)) none
+  step_loops place session call.Stop done h = subst Kept (sym (mount_leaves s done h)) none
   step_loops place session _ done h = absurd cc
 
 -- ---- histories

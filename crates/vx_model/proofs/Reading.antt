@@ -1,5 +1,5 @@
 -- An image of a state reads as the state's tree.
-use Rattle.std.proofs.Common.{◌≡◌, ℕ, ◌+◌, ◌-◌, ◌*◌, ◌/◌, ◌<◌, ◌≤◌, ◌^◌, Bool, true, cond, List, [], ◌∷◌, ◌++◌, Option, Some, None, refl, sym, ap, subst, ◌∙◌, arith, lit<, lit≤}
+use Rattle.std.proofs.Common.{◌≡◌, ℕ, ◌+◌, ◌-◌, ◌*◌, ◌<◌, ◌≤◌, ◌^◌, Bool, true, cond, List, [], ◌∷◌, ◌++◌, Option, Some, None, refl, sym, ap, subst, ◌∙◌, arith, lit<, lit≤}
 use Rattle.std.specs.Prelude.{◌&&◌, nat_le, is_some, IsTrue, IfSome}
 use Rattle.std.specs.Option.{option_map, option_and_then, unwrap_or}
 use Rattle.std.specs.FinMap as map
@@ -82,13 +82,13 @@ filled_fits d b h low = record {
   chained = refl;
 }
 
-in_units : (b log_blocks units : ℕ) → units ≤ 64 → log_blocks ≤ 2048 → (b - (2 + log_blocks)) / 4096 < units → b < 2 ^ 32
+in_units : (b log_blocks units : ℕ) → units ≤ 64 → log_blocks ≤ 2048 → b - (2 + log_blocks) < 4096 * units → b < 2 ^ 32
 in_units b log_blocks units few short there = omega arith
 
 -- a data block's number is small
 data_low : (l : Layout) (b : ℕ) → l.units ≤ 64 → l.log_blocks ≤ 2048 → IsTrue (is_data (volume l) b) → b < 2 ^ 32
 unfolding is_data
-data_low l b few short h = in_units b l.log_blocks l.units few short (ltb-true _ _ (and_parts _ _ (and_parts _ _ h).0).1)
+data_low l b few short h = in_units b l.log_blocks l.units few short (ltb-true _ _ (and_parts _ _ (and_parts _ _ h).1).0)
 
 directory_fits : (l : Layout) (blocks : List DirectoryBlock) (d : Directory) → l.units ≤ 64 → l.log_blocks ≤ 2048 → AreBlocks l blocks → d.mode ≤ 4095 → IsInode layout1 (inode_for blocks (IsDirectory d))
 directory_fits l [] d few short are h = empty_fits d h

@@ -13,7 +13,7 @@ use Rattle.vx_model.specs.Removing.{fine, unlink, rmdir}
 use Rattle.vx_model.specs.Linking.{link}
 use Rattle.vx_model.specs.Moving.{Move, replace_by, move_onto, rename}
 use Rattle.vx_model.specs.Naming.{stat_reply, list, stat, chmod}
-use Rattle.vx_model.specs.Step.{step}
+use Rattle.vx_model.specs.Step.{is_for_mount, step}
 use Rattle.vx_model.proofs.Chains.{Always, bind_always, where_holds}
 
 -- an answer that is no refusal
@@ -89,6 +89,10 @@ module _ (s : State) (place : ℕ) where
   refused session (call.Chmod path mode) done why h r = of_settled done (chmod s path mode) why h r (chmod_answers path mode)
   refused session (call.Stat path) done why h r = of_settled done (stat s path) why h r (stat_path_answers path)
   refused session (call.List path) done why h r = of_settled done (list s path) why h r (list_path_answers path)
+  refused session call.Sync done why h r = of_settled done (Ok (fine s)) why h r (fine_answers s)
+  refused session call.Tick done why h r = of_settled done (Ok (fine s)) why h r (fine_answers s)
+  refused session (call.After other lines) done why h r = of_settled done (Ok (fine s)) why h r (fine_answers s)
+  refused session call.Stop done why h r = of_settled done (Ok (fine s)) why h r (fine_answers s)
   refused session _ done why h r = absurd cc
 
 -- ---- calls that only ask
@@ -113,3 +117,14 @@ stat_leaves s place session path done h = stays_settled s done (stat s path) h (
 
 pub list_leaves : (s : State) (place session : ℕ) (path : List ℕ) (done : Done) → step s place session (call.List path) ≡ Some done → done.state ≡ s
 list_leaves s place session path done h = stays_settled s done (list s path) h (list_stays s path)
+
+-- a call to the mount leaves everything as it was, and is answered with Fine
+pub mount_leaves : (s : State) (done : Done) → Some (fine s) ≡ Some done → done.state ≡ s
+mount_leaves s done h = stays_settled s done (Ok (fine s)) h refl
+
+pub mount_fine : (s : State) (place session : ℕ) (c : Call) (done : Done) → is_for_mount c ≡ true → step s place session c ≡ Some done → done ≡ fine s
+mount_fine s place session call.Sync done is h = cc
+mount_fine s place session call.Tick done is h = cc
+mount_fine s place session (call.After other lines) done is h = cc
+mount_fine s place session call.Stop done is h = cc
+mount_fine s place session _ done is h = absurd cc

@@ -47,11 +47,12 @@ abbrev pub is_tmplog : Logging → Bool
 is_tmplog TmpLog = true
 is_tmplog _ = false
 
--- Whether such a call, once it has returned, is durable with all that came before it. A tick, a close and a write, for which that is
--- for more than the call to say, can't come yet.
+-- Whether such a call, once it has returned, is durable with all that came before it. Every tick counts as long as no call sets the
+-- number of ticks. A close and a write, for which it is for more than the call to say, can't come yet.
 abbrev pub has_front : Logging → Call → Bool
 has_front mode call.Sync = true
 has_front mode (call.Fsync handle) = true
+has_front mode call.Tick = not (is_tmplog mode)
 has_front mode (call.Rename old new) = not (is_tmplog mode)
 has_front mode c = is_log mode && is_change c
 

@@ -1,10 +1,10 @@
 -- What the names take up on the device, as far as directories go.
 use Rattle.std.specs.Prelude.{ℕ, zero, suc, ◌+◌, ◌*◌, Bool, not, ◌&&◌, ◌==◌, nat_le, nat_lt, List, [], ◌∷◌, ◌++◌, map, filter, length, Option, Some, None, is_none, Ok, if◌then◌else◌}
-use Rattle.std.specs.List.{sum_by}
 use Rattle.std.specs.Str.{bytes_eq}
 use Rattle.vx_base.specs.declared.refusal.Refusal.TheVariants as no
 use Rattle.vx_base.specs.declared.inode.DirEntry.{DirEntry}
 use Rattle.vx_base.specs.Paths.{FileName}
+pub use Rattle.vx_base.specs.Rules.{entry_size, used_by}
 use Rattle.vx_layout.specs.Places.{Volume, is_data}
 use Rattle.vx_model.specs.Outcome.{Maybe, unless, ◌>>=◌, need}
 use Rattle.vx_model.specs.Placement.{page_place}
@@ -66,12 +66,6 @@ is_free l b = is_data (volume l) b && (is_none (claim_of l b) && is_none (l.pend
 -- the bytes that a block has for entries
 abbrev pub entry_room : ℕ
 entry_room = 1020
-
-abbrev pub entry_size : DirEntry → ℕ
-entry_size e = 5 + length e.name
-
-abbrev pub used_by : List DirEntry → ℕ
-used_by entries = sum_by entry_size entries
 
 abbrev pub has_room : DirectoryBlock → DirEntry → Bool
 has_room b e = nat_le (used_by b.entries + entry_size e) entry_room

@@ -1,9 +1,10 @@
 -- Legal histories.
-use Rattle.std.specs.Prelude.{◌≡◌, ◌⊎◌, ℕ, ◌+◌, ◌≤◌, Bool, true, false, not, ◌&&◌, nat_eq, nat_lt, List, [], ◌∷◌, Option, Some, None, if◌then◌else◌}
+use Rattle.std.specs.Prelude.{◌≡◌, ◌⊎◌, ℕ, ◌+◌, ◌<◌, ◌≤◌, Bool, true, false, not, ◌&&◌, nat_eq, nat_lt, List, [], ◌∷◌, Option, Some, None, if◌then◌else◌}
 use Rattle.std.specs.List.{list_any}
 use Rattle.std.specs.Ordering.{nat_cmp}
 use Rattle.std.specs.FinMap as map
 use Rattle.vx_base.specs.declared.call.Call.{Call}
+use Rattle.vx_base.specs.declared.call.Call.TheVariants as call
 use Rattle.vx_base.specs.declared.event.Event.{Event}
 use Rattle.vx_base.specs.declared.event.Event.TheVariants as event
 use Rattle.vx_base.specs.declared.refusal.Refusal.{Refusal}
@@ -18,7 +19,16 @@ use Rattle.vx_model.specs.Step.{step}
 pub record Waiting : Type 0 where
   pub session : ℕ
   pub line : ℕ
+  pub call : Call
   pub reply : Reply
+
+-- How far a mount has come: it is in use; a Stop was answered, behind which nothing but Stopped comes; or it has ended, stopped or
+-- unmounted.
+pub data Phase : Type 0 where
+  in_use : Phase
+  stopping : Phase
+  stopped : Phase
+  unmounted : Phase
 
 -- what the events so far leave
 pub record World : Type 0 where
@@ -26,11 +36,11 @@ pub record World : Type 0 where
   pub next : ℕ
   pub state : State
   pub waiting : map.FinMap nat_cmp Waiting
-  pub unmounted : Bool
+  pub phase : Phase
 
 -- where a history begins, with so many operations done on the device
 abbrev pub opening : ℕ → State → World
-opening at s = record { at = at; next = 0; state = s; waiting = map.empty; unmounted = false }
+opening at s = record { at = at; next = 0; state = s; waiting = map.empty; phase = in_use }
 
 -- a refusal that may come in place of any reply of a Do
 abbrev pub is_any_time : Refusal → Bool
@@ -68,7 +78,9 @@ abbrev pub IfThere : {X : Type 0} → Option X → (X → Type 0) → Type 0
 IfThere None P = ⊥
 IfThere (Some x) P = P x
 
+-- Lines have numbers from 1 on. A call of line 0 closes a handle in the unmount, and no handle is opened yet.
 pub record DoAllowed (w : World) (session line : ℕ) (c : Call) (reply : Reply) : Type 0 where
+  pub numbered : 0 < line
   pub idle : is_idle w session ≡ true
   pub reply_is : IfThere (step w.state w.next session c) (λ done. (reply ≡ done.reply) ⊎ (is_fault reply ≡ true))
   pub all_released : is_no_space reply ≡ true → (b : ℕ) → w.state.layout.pending b ≡ None
@@ -94,13 +106,19 @@ at_of (event.Unbar at place cause) = at
 at_of (event.Stopped at) = at
 at_of (event.Unmounted at) = at
 
--- whether the event may come, apart from its moment; the kinds that are not built yet may not
+-- whether the event may come, apart from its moment and the mount's phase; the kinds that are not built yet may not
 abbrev pub Comes : World → Event → Type 0
 Comes w (event.Do at session line c reply) = DoAllowed w session line c reply
 Comes w (event.Ret at place answer) = RetAllowed (map.get w.waiting place) answer
 Comes w (event.Release at upto) = Unit {0}
+Comes w (event.Stopped at) = Unit {0}
 Comes w (event.Unmounted at) = map.len w.waiting ≡ 0
 Comes w _ = ⊥
+
+-- the phase in which the event may come
+abbrev pub phase_for : Event → Phase
+phase_for (event.Stopped at) = stopping
+phase_for _ = in_use
 
 abbrev pub state_after_step : State → Option Done → State
 state_after_step s None = s
@@ -113,16 +131,31 @@ state_after s place session c reply = if is_fault reply then s else state_after_
 abbrev pub with_released : State → ℕ → State
 with_released s upto = record s { layout = released s.layout upto }
 
+abbrev pub is_stop : Call → Bool
+is_stop call.Stop = true
+is_stop _ = false
+
+-- a Stop that is answered with Fine ends the run
+abbrev pub phase_after : Phase → Option Waiting → Reply → Phase
+phase_after phase (Some v) say.Fine = if is_stop v.call then stopping else phase
+phase_after phase _ _ = phase
+
 abbrev pub after : World → Event → World
 after w (event.Do at session line c reply) = record w {
   at = at;
   next = w.next + 1;
   state = state_after w.state w.next session c reply;
-  waiting = map.insert w.waiting w.next (record { session = session; line = line; reply = reply });
+  waiting = map.insert w.waiting w.next (record { session = session; line = line; call = c; reply = reply });
 }
-after w (event.Ret at place answer) = record w { at = at; next = w.next + 1; waiting = map.remove w.waiting place }
+after w (event.Ret at place answer) = record w {
+  at = at;
+  next = w.next + 1;
+  waiting = map.remove w.waiting place;
+  phase = phase_after w.phase (map.get w.waiting place) answer;
+}
 after w (event.Release at upto) = record w { at = at; next = w.next + 1; state = with_released w.state upto }
-after w (event.Unmounted at) = record w { at = at; next = w.next + 1; unmounted = true }
+after w (event.Stopped at) = record w { at = at; next = w.next + 1; phase = stopped }
+after w (event.Unmounted at) = record w { at = at; next = w.next + 1; phase = unmounted }
 after w e = record w { at = at_of e; next = w.next + 1 }
 
 abbrev pub after_all : World → List Event → World
@@ -131,7 +164,7 @@ after_all w (e ∷ es) = after_all (after w e) es
 
 pub record Allowed (w : World) (e : Event) : Type 0 where
   pub later : w.at ≤ at_of e
-  pub mounted : w.unmounted ≡ false
+  pub phase_is : w.phase ≡ phase_for e
   pub comes : Comes w e
 
 abbrev pub Legal : World → List Event → Type 0

@@ -1,5 +1,5 @@
 //! What calls do to names, in a file system's own words.
-ghost use Rattle.std.specs.Prelude.{◌≡◌, ◌≢◌, ◌↔◌, ◌*◌, ℕ, List, Some, Ok, Err, IsSome, Contains, length};
+ghost use Rattle.std.specs.Prelude.{◌≡◌, ◌≢◌, ◌↔◌, ◌*◌, ℕ, List, true, Some, Ok, Err, IsSome, Contains, length};
 ghost use Rattle.std.specs.FinMap as map;
 ghost use Rattle.vx_base.specs.declared.call.Call.{Call};
 ghost use Rattle.vx_base.specs.declared.call.Call.TheVariants as call;
@@ -10,7 +10,8 @@ ghost use Rattle.vx_base.specs.declared.reply.Reply.TheVariants as say;
 ghost use Rattle.vx_base.specs.declared.event.Event.{Event};
 ghost use Rattle.vx_model.specs.Legal.{opening, with_released, after_all};
 ghost use Rattle.vx_model.specs.State.{State, Done, fresh};
-ghost use Rattle.vx_model.specs.Step.{step};
+ghost use Rattle.vx_model.specs.Removing.{fine};
+ghost use Rattle.vx_model.specs.Step.{is_for_mount, step};
 ghost use Rattle.vx_model.specs.Tree.{File, Directory, IsFile, IsDirectory, new_file, new_directory};
 ghost use Rattle.vx_model.specs.NameLaws.{lookup, IsCreated, IsLinked, IsModeSet, IsRemoved, IsRenamed, GoesIntoItself, name_count, HasLinks, HasNoLoops};
 ghost use Rattle.vx_model.specs.Walks.{inode_of};
@@ -24,6 +25,7 @@ pub fn refused_leaves()
 pub fn asking_leaves()
     ensures stat { (s : State) (place session : ℕ) (path : List ℕ) (done : Done) → step s place session (call.Stat path) ≡ Some done → done.state ≡ s }
     ensures list { (s : State) (place session : ℕ) (path : List ℕ) (done : Done) → step s place session (call.List path) ≡ Some done → done.state ≡ s }
+    ensures mount { (s : State) (place session : ℕ) (c : Call) (done : Done) → is_for_mount c ≡ true → step s place session c ≡ Some done → done ≡ fine s }
 {}
 
 /// What a create or a mkdir makes has the path's name, and all else is as it was.

@@ -6,6 +6,7 @@ use Rattle.std.specs.FinMap as map
 use Rattle.std.proofs.lemmas.Bool.{cases_Bool, cases_eq, cases_lt, eqb-true, eq-eqb, ne_eqb, and_left, and_right, and_parts, and_from, or_left, or_from, ltb-true, lt-ltb, le-ltb, leb-true}
 use Rattle.std.proofs.lemmas.Bool.Decides.{nat_tests}
 use Rattle.vx_alloc.specs.FreeMaps.{FreeMapView, place_of, with_place, is_used as is_used_block, is_free as is_free_block, is_data as is_data_block}
+use Rattle.vx_base.specs.Rules.{lowest_absent, lowest_unused}
 use Rattle.vx_base.proofs.Maps.{at_key, at_other, taken_back}
 use Rattle.vx_base.specs.declared.inode.Inode.{Inode}
 use Rattle.vx_base.specs.declared.inode.InodeValue.{InodeValue}
@@ -13,7 +14,7 @@ use Rattle.vx_base.specs.declared.kind.FileKind.{FileKind}
 use Rattle.vx_base.specs.declared.kind.FileKind.TheVariants as kind
 use Rattle.vx_dir.specs.Sizes.{Entries}
 use Rattle.vx_inode.proofs.Counts.{removed, kept, len_more, len_within}
-use Rattle.vx_inode.specs.Tables.{Inodes, Table, inode_at, is_used, with_inode, without_inode, new_inode, lowest_from, lowest_unused as lowest_in, is_full, make_answer}
+use Rattle.vx_inode.specs.Tables.{Inodes, Table, inode_at, is_used, with_inode, without_inode, new_inode, is_full, make_answer}
 use Rattle.vx_inode.specs.declared.table.MakeRefusal.{MakeRefusal}
 use Rattle.vx_inode.specs.declared.table.MakeRefusal.TheVariants as make
 use Rattle.vx_layout.specs.Places.{Volume, is_data}
@@ -24,7 +25,7 @@ use Rattle.vx_model.specs.LaidOut.{IsHeld, HasBlock, IsLaidOut, AreBlocks}
 use Rattle.vx_model.specs.Layout.{Layout, DirectoryBlock, volume, blocks_at, block_numbers, with_blocks, is_free, freed, pended}
 use Rattle.vx_model.specs.State.{State}
 use Rattle.vx_model.specs.Touching.{Touched, IsTouched, joined, inode_touched, blocks_touched, unit_of, units_of}
-use Rattle.vx_model.specs.Tree.{Node, Nodes, File, IsFile, IsDirectory, no_attrs, lowest_absent, lowest_unused, new_directory}
+use Rattle.vx_model.specs.Tree.{Node, Nodes, File, IsFile, IsDirectory, no_attrs, new_directory}
 use Rattle.vx_txn.specs.Calls.{HasGone}
 use Rattle.vx_txn.specs.Directories.{DirectoryValue, blocks_in, last_place}
 use Rattle.vx_txn.specs.Edits.{IsFullOf, new_node, empty_directory, one_block, new_directory_at, with_pended, unit_list}
@@ -45,29 +46,29 @@ mapped f g (Some x) = refl
 same_used : (m : Meta) (s : State) → Stands m s → (q : ℕ) → is_some (map.get s.tree.nodes q) ≡ is_some (inode_at m.inodes q)
 same_used m s is q = sym (ap is_some (held m s is q) ∙ mapped (λ (v : InodeValue). v.inode) _ (map.get s.tree.nodes q))
 
-same_lowest : (nodes : Nodes) (inodes : Inodes) → ((q : ℕ) → is_some (map.get nodes q) ≡ is_some (map.get inodes q)) → (fuel from : ℕ) → lowest_absent nodes fuel from ≡ lowest_from inodes fuel from
+same_lowest : (nodes : Nodes) (inodes : Inodes) → ((q : ℕ) → is_some (map.get nodes q) ≡ is_some (map.get inodes q)) → (fuel from : ℕ) → lowest_absent nodes fuel from ≡ lowest_absent inodes fuel from
 same_lowest nodes inodes same zero from = refl
 same_lowest nodes inodes same (suc more) from =
     ap (λ (b : Bool). cond b (lowest_absent nodes more (from + 1)) from) (same from) ∙ ap (λ (x : ℕ). cond (is_some (map.get inodes from)) x from) (same_lowest nodes inodes same more (from + 1))
 
-pub lowest_is : (m : Meta) (s : State) → Stands m s → lowest_unused s.layout.units s.tree.nodes ≡ lowest_in m.inodes
-lowest_is m s is = same_lowest s.tree.nodes m.inodes.inodes (same_used m s is) (128 * s.layout.units) 3 ∙ ap (λ (u : ℕ). lowest_from m.inodes.inodes (128 * u) 3) is.is.units
+pub lowest_is : (m : Meta) (s : State) → Stands m s → lowest_unused s.layout.units s.tree.nodes ≡ lowest_unused m.inodes.units m.inodes.inodes
+lowest_is m s is = same_lowest s.tree.nodes m.inodes.inodes (same_used m s is) (128 * s.layout.units) 3 ∙ ap (λ (u : ℕ). lowest_absent m.inodes.inodes (128 * u) 3) is.is.units
 
-lowest_low : (inodes : Inodes) (fuel from : ℕ) → from ≤ lowest_from inodes fuel from
+lowest_low : (inodes : Inodes) (fuel from : ℕ) → from ≤ lowest_absent inodes fuel from
 lowest_low inodes zero from = omega arith
 lowest_low inodes (suc more) from = elim (cases_Bool (is_some (map.get inodes from))) [
   | inl hit ↦ rw hit (let e = lowest_low inodes more (from + 1) in omega arith)
   | inr miss ↦ rw miss (omega arith)
 ]
 
-lowest_none : (inodes : Inodes) (fuel from : ℕ) → lowest_from inodes fuel from < from + fuel → is_some (map.get inodes (lowest_from inodes fuel from)) ≡ false
+lowest_none : (inodes : Inodes) (fuel from : ℕ) → lowest_absent inodes fuel from < from + fuel → is_some (map.get inodes (lowest_absent inodes fuel from)) ≡ false
 lowest_none inodes zero from lt = absurd (omega arith)
 lowest_none inodes (suc more) from lt = elim (cases_Bool (is_some (map.get inodes from))) [
   | inl hit ↦
-      let e : lowest_from inodes (suc more) from ≡ lowest_from inodes more (from + 1) = rw hit refl in
+      let e : lowest_absent inodes (suc more) from ≡ lowest_absent inodes more (from + 1) = rw hit refl in
       ap (λ (x : ℕ). is_some (map.get inodes x)) e ∙ lowest_none inodes more (from + 1) (omega arith)
   | inr miss ↦
-      let e : lowest_from inodes (suc more) from ≡ from = rw miss refl in
+      let e : lowest_absent inodes (suc more) from ≡ from = rw miss refl in
       ap (λ (x : ℕ). is_some (map.get inodes x)) e ∙ miss
 ]
 
@@ -93,10 +94,10 @@ module _ (m : Meta) (s : State) (is : Stands m s) where
   past_units : (q : ℕ) → 128 * m.inodes.units ≤ q → inode_at m.inodes q ≡ None
   past_units q le = unused_by q (held_high s.layout q (map.get s.tree.nodes q) (is.laid_out.nodes q) (let e : s.layout.units ≡ m.inodes.units = is.is.units in omega arith))
 
-  full_none : is_full m.inodes ≡ true → 128 * m.inodes.units ≤ lowest_in m.inodes
-  full_none full = elim (cases_lt (lowest_in m.inodes) (128 * m.inodes.units)) [
+  full_none : is_full m.inodes ≡ true → 128 * m.inodes.units ≤ lowest_unused m.inodes.units m.inodes.inodes
+  full_none full = elim (cases_lt (lowest_unused m.inodes.units m.inodes.inodes) (128 * m.inodes.units)) [
     | inl lt ↦
-        let x = lowest_in m.inodes in
+        let x = lowest_unused m.inodes.units m.inodes.inodes in
         let low : 3 ≤ x = lowest_low m.inodes.inodes (128 * m.inodes.units) 3 in
         let none : inode_at m.inodes x ≡ None = none_of (inode_at m.inodes x) (lowest_none m.inodes.inodes (128 * m.inodes.units) 3 (omega arith)) in
         let node : Inode = new_inode kind.File 0 in
@@ -109,7 +110,7 @@ module _ (m : Meta) (s : State) (is : Stands m s) where
     | inr le ↦ le
   ]
 
-  full_by : (full : Bool) (n : ℕ) → is_full m.inodes ≡ full → Err (make.NoInodes n) ≡ cond full (Err (make.NoInodes (128 * m.inodes.units - 2))) (Ok (lowest_in m.inodes)) → IsFullOf s (make.NoInodes n)
+  full_by : (full : Bool) (n : ℕ) → is_full m.inodes ≡ full → Err (make.NoInodes n) ≡ cond full (Err (make.NoInodes (128 * m.inodes.units - 2))) (Ok (lowest_unused m.inodes.units m.inodes.inodes)) → IsFullOf s (make.NoInodes n)
   full_by true n is_full answer =
       let count : n ≡ 128 * m.inodes.units - 2 = (let e = answer in cc) in
       let units : s.layout.units ≡ m.inodes.units = is.is.units in
@@ -124,7 +125,7 @@ module _ (m : Meta) (s : State) (is : Stands m s) where
   refusal_is (make.NoInodes n) (inl answer) = full_by (is_full m.inodes) n refl answer
   refusal_is (make.NoInodes n) (inr other) = absurd (cc)
 
-  ok_by : (full : Bool) (n : ℕ) → Ok n ≡ cond full (Err (make.NoInodes (128 * m.inodes.units - 2))) (Ok (lowest_in m.inodes)) → n ≡ lowest_in m.inodes
+  ok_by : (full : Bool) (n : ℕ) → Ok n ≡ cond full (Err (make.NoInodes (128 * m.inodes.units - 2))) (Ok (lowest_unused m.inodes.units m.inodes.inodes)) → n ≡ lowest_unused m.inodes.units m.inodes.inodes
   ok_by true n answer = absurd (cc)
   ok_by false n answer = cc
 

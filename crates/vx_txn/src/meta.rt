@@ -1,5 +1,5 @@
 //! The metadata.
-ghost use Rattle.std.specs.Prelude.{◌≡◌, ◌+◌, ◌*◌, ◌≤◌, ◌<◌, IfOk, IfSome, IsSome, OnErr, ℕ, Option, None, true, false, is_some, IsTrue};
+ghost use Rattle.std.specs.Prelude.{◌≡◌, ◌+◌, ◌*◌, ◌≤◌, ◌<◌, IfOk, IfSome, IsSome, OnErr, ℕ, Option, None, Ok, true, false, is_some, IsTrue};
 ghost use Rattle.std.specs.Option.{option_copied};
 ghost use Rattle.vx_base.specs.declared.kind.FileKind.TheVariants as kind;
 ghost use Rattle.vx_layout.specs.Places.{is_data};
@@ -9,7 +9,8 @@ ghost use Rattle.vx_model.specs.Layout.{volume, claim_of};
 ghost use Rattle.vx_model.specs.Legal.{IfThere, with_released};
 ghost use Rattle.vx_model.specs.Naming.{list};
 ghost use Rattle.vx_model.specs.State.{State, fresh};
-ghost use Rattle.vx_model.specs.Step.{has_step, step};
+ghost use Rattle.vx_base.specs.declared.reply.Reply.TheVariants.{Fine};
+ghost use Rattle.vx_model.specs.Step.{has_step, is_for_mount, step};
 ghost use Rattle.vx_model.specs.Touching.{untouched};
 ghost use Rattle.vx_model.specs.Tree.{no_attrs};
 ghost use Rattle.vx_txn.specs.Calls.{HasMode, IsDone, IsSettled, most};
@@ -74,8 +75,8 @@ impl Meta {
         })
     }
 
-    /// Does a call of names at this place of the history, and answers its reply, twice. Nothing changes where memory is
-    /// short or the call is refused. A refused call, stat and list touch nothing.
+    /// Does a call at this place of the history, and answers its reply, twice. Nothing changes where memory is short or the call is
+    /// refused. A refused call, stat and list touch nothing; a call to the mount, as sync, takes no memory and is answered with Fine.
     pub fn apply(
         &mut self,
         alloc: Global,
@@ -96,6 +97,7 @@ impl Meta {
         ensures few { most touched.new ≤ 4 }
         ensures err { (s : State) → IsStateOf self.old s → OnErr result (IsStateOf self.new s) }
         ensures untouched { OnErr result (touched.new ≡ untouched) }
+        ensures mount { is_for_mount call.now ≡ true → result ≡ Ok (Fine, Fine) }
     {
         match call {
             Call::List { path } => listed(self, alloc, path.as_slice()),
@@ -231,6 +233,7 @@ fn changed(
     ensures few { most touched.new ≤ 4 }
     ensures unchanged { OnErr result (IsUnchanged meta.old meta.new) }
     ensures untouched { OnErr result (touched.new ≡ untouched) }
+    ensures mount { is_for_mount call.now ≡ true → result ≡ Ok (Fine, Fine) }
 {
     match short_reply(meta, alloc, call, place, touched) {
         Ok(reply) => {
@@ -260,6 +263,7 @@ fn short_reply(
     ensures few { most touched.new ≤ 4 }
     ensures unchanged { OnErr result (IsUnchanged meta.old meta.new) }
     ensures untouched { OnErr result (touched.new ≡ untouched) }
+    ensures mount { is_for_mount call.now ≡ true → result ≡ Ok Fine }
 {
     match call {
         Call::Create { path, mode } => {
@@ -284,6 +288,7 @@ fn short_reply(
         }
         Call::Chmod { path, mode } => chmod(meta, alloc, path.as_slice(), *mode, touched),
         Call::Stat { path } => stat(meta, alloc, path.as_slice()),
+        Call::Sync | Call::Tick | Call::After { .. } | Call::Stop => Ok(Reply::Fine),
         _ => unreachable!(),
     }
 }

@@ -19,6 +19,7 @@ returns-in_default c = record {
   few = c.changed.ensures.few;
   err = λ s is. on_err_weaker c.changed.result (λ (u : IsUnchanged c.args.self.now c.changed.new.meta). unchanged_state c.args.self.now c.changed.new.meta s u is) c.changed.ensures.unchanged;
   untouched = c.changed.ensures.untouched;
+  mount = c.changed.ensures.mount;
 }
 
 pub returns-in-List-clause-fits : goal.returns-in-List-clause-fits
