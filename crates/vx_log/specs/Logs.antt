@@ -1,5 +1,5 @@
 -- The intent log as its callers see it.
-use Rattle.std.specs.Prelude.{◌≡◌, ◌⊎◌, ◌==◌, ◌&&◌, ◌<◌, ◌≤◌, ◌+◌, ◌%◌, ◌^◌, min, ℕ, Bool, true, false, List, [], ◌∷◌, ◌++◌, length, filter, nat_le, Option, Some, None, IfSome, is_none, All, Contains, slice_range}
+use Rattle.std.specs.Prelude.{◌≡◌, ◌⊎◌, ◌==◌, ◌&&◌, ◌≤◌, ◌+◌, ◌%◌, ◌^◌, min, ℕ, zero, suc, Bool, true, false, List, [], ◌∷◌, ◌++◌, length, filter, nat_le, Option, Some, None, IfSome, is_none, All, Contains, slice_range}
 use Rattle.vx_layout.specs.LogForms.{AfterImage, IsHomeSector, log_length, body_of}
 use Rattle.vx_log.specs.Batches.{IsBatch}
 use Rattle.vx_log.specs.Writes.{log_writes}
@@ -32,7 +32,6 @@ AreStarts tail (start ∷ starts) head = (tail ≡ start) × AreAfter start star
 
 -- what each batch is that is being written into a log of n sectors
 pub record IsClosing (n tail head : ℕ) (closing : Closing) : Type 0 where
-  pub some : 0 < length closing.batch
   pub batch : IsBatch closing.batch
   pub homes : All (λ e. IsHomeSector n e.0) closing.batch
   pub room : head + log_length (length closing.batch) ≤ tail + n
@@ -80,6 +79,11 @@ abbrev pub is_body_out : Option Closing → Bool
 is_body_out None = false
 is_body_out (Some c) = c.written == log_length (length c.batch)
 
+-- the positions at which batches begin, with that of one more of so many log sectors; a batch without any begins nowhere
+abbrev pub with_start : List ℕ → ℕ → ℕ → List ℕ
+with_start starts at zero = starts
+with_start starts at (suc k) = starts ++ at ∷ []
+
 -- the log after the head sector with the new batch is written
 abbrev pub opened : LogView → LogView
 opened log = record {
@@ -87,7 +91,7 @@ opened log = record {
   serial = next_serial log.serial;
   tail = log.tail;
   head = log.head + closing_length log.closing;
-  starts = log.starts ++ log.head ∷ [];
+  starts = with_start log.starts log.head (closing_length log.closing);
   closing = None;
   spare = true;
 }

@@ -17,7 +17,6 @@ impl Log {
     /// the batch counts or not, and the log is good for nothing more.
     pub fn commit<D: BlockDev>(&mut self, dev: &mut D, batch: Batch) -> Result<(), DevFault>
         requires free { IsNone self.old.closing }
-        requires some { 0 < length batch }
         requires homes { All (λ e. IsHomeSector self.old.sectors e.0) batch }
         requires room { self.old.head + log_length (length batch) ≤ self.old.tail + self.old.sectors }
         requires limit { self.old.head + log_length (length batch) ≤ 2 ^ 62 }

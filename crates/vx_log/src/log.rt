@@ -7,7 +7,7 @@ ghost use Rattle.vx_layout.specs.LogForms as forms;
 ghost use Rattle.vx_layout.specs.LogForms.{IsHomeSector};
 ghost use Rattle.vx_dev.specs.Runs.{Ran, BrokeOff, puts};
 ghost use Rattle.vx_log.specs.Ends.{IsEnds, standing_log};
-ghost use Rattle.vx_log.specs.Logs.{LogView, IsLog, AreStarts, IsBoundary, next_serial, fresh_log, closed, closing_length, stage_writes, after_stage, is_body_out, opened, advanced, restarted, has_spare};
+ghost use Rattle.vx_log.specs.Logs.{LogView, IsLog, AreStarts, IsBoundary, next_serial, fresh_log, closed, closing_length, with_start, stage_writes, after_stage, is_body_out, opened, advanced, restarted, has_spare};
 
 use crate::batch::Batch;
 use crate::body::log_length;
@@ -148,7 +148,6 @@ impl Log {
     /// Begins to write a batch.
     pub fn close_batch(&mut self, batch: Batch)
         requires free { IsNone self.old.closing }
-        requires some { 0 < length batch }
         requires homes { All (λ e. IsHomeSector self.old.sectors e.0) batch }
         requires room { self.old.head + forms.log_length (length batch) ≤ self.old.tail + self.old.sectors }
         requires limit { self.old.head + forms.log_length (length batch) ≤ 2 ^ 62 }
@@ -208,12 +207,10 @@ impl Log {
             unreachable!()
         };
         let serial = self.serial.wrapping_add(1);
-        let head = self.head + u64::from(log_length(closing.batch.len()));
+        let length = log_length(closing.batch.len());
+        let head = self.head + u64::from(length);
         dev.write(HEAD_SECTOR, &head_sector(serial, self.tail, head))?;
-        match self.starts.push(self.head) {
-            Ok(()) => {}
-            Err(_) => unreachable!(),
-        }
+        note_start(&mut self.starts, self.head, length);
         self.serial = serial;
         self.head = head;
         self.spare = emptied(self.closing.take());
@@ -264,6 +261,21 @@ impl Log {
         self.head = 0;
         self.starts.clear();
         Ok(())
+    }
+}
+
+/// Notes where a batch of so many log sectors begins, if it has any.
+fn note_start(starts: &mut Vec<u64>, at: u64, sectors: u32)
+    requires { 0 < sectors → length starts.old.items < vec_capacity starts.old }
+    ensures items { starts.new.items ≡ with_start starts.old.items at sectors }
+    ensures capacity { vec_capacity starts.old ≤ vec_capacity starts.new }
+{
+    if sectors == 0 {
+        return;
+    }
+    match starts.push(at) {
+        Ok(()) => {}
+        Err(_) => unreachable!(),
     }
 }
 
