@@ -1,5 +1,6 @@
 //! Inodes.
 ghost use Rattle.std.specs.Prelude.{◌≡◌, ℕ, ◌+◌, ◌≤◌, ◌<◌, ◌++◌, ◌&&◌, length, option_copied, Option, Ok, IfOk};
+ghost use Rattle.std.specs.Result.{result_ok};
 ghost use Rattle.std.specs.Str.{bytes_eq};
 ghost use Rattle.std.specs.List.{flat_map, list_all};
 ghost use Rattle.vx_layout.specs.Inodes.{file_kind_number, place_bytes, inode_head, inode_bytes, slot_bytes, half_of, layout1, IsSlot, IsInode, inode_fits, attrs_fit, is_directory_size, extents_limit, places_each, maps_needed, is_map_number, place_has_length, file_kind_from, place_at, places_at, attrs_at, fields_at, map_at, inode_at, slot_at};
@@ -44,6 +45,8 @@ pub fn read_inode(sector: &[u8; 512], half: u32) -> Result<Option<InodeValue>, B
     ensures found { IfOk result (λ v. IsSlot layout1 v × (half_of sector.now half ≡ slot_bytes v)) }
     // What is spelled so is read.
     ensures only { (v : Option InodeValue) → IsSlot layout1 v → half_of sector.now half ≡ slot_bytes v → result ≡ Ok v }
+    // And what the bytes say at each place decides whether there is such a value.
+    ensures said { result_ok result ≡ slot_at layout1 (half_of sector.now half) }
 {
     read_inode_with(sector, half, &Geom::layout1())
 }
@@ -62,6 +65,8 @@ pub fn read_inode_with(
     ensures found { IfOk result (λ v. IsSlot geom.now v × (half_of sector.now half ≡ slot_bytes v)) }
     // What is spelled so is read.
     ensures only { (v : Option InodeValue) → IsSlot geom.now v → half_of sector.now half ≡ slot_bytes v → result ≡ Ok v }
+    // And what the bytes say at each place decides whether there is such a value.
+    ensures said { result_ok result ≡ slot_at geom.now (half_of sector.now half) }
 {
     let at = 256 * half as usize;
     match slot_of(&sector[at..at + 256], geom) {

@@ -33,3 +33,9 @@ returns-in-None-clause-only c = λ v fits e.
     let read : c.slot_of.result ≡ Some v = again c.args.geom.now c.args.sector.now c.args.half c.slot_of.result v c.slot_of.ensures fits e in
     let is : c.slot_of.result ≡ None = c.in-None.is in
     cc
+
+pub returns-in-Some-clause-said : goal.returns-in-Some-clause-said
+returns-in-Some-clause-said c = sym c.in-Some.is ∙ c.slot_of.ensures ∙ half_is c.args.geom.now c.args.sector.now c.args.half
+
+pub returns-in-None-clause-said : goal.returns-in-None-clause-said
+returns-in-None-clause-said c = sym c.in-None.is ∙ c.slot_of.ensures ∙ half_is c.args.geom.now c.args.sector.now c.args.half
