@@ -67,8 +67,8 @@ module _ (k : Kernel) (s : State) (empty : k.history.items ≡ []) (committed : 
       none zero = refl
       none (suc n) = refl
 
-  pub begun_run : (d : Device) → IsMounted k.sizes s → k.first ≤ d.count → HasRun o d k
-  begun_run d m later = record {
+  pub begun_run : (d : Device) → IsMounted k.sizes s → ((b : ℕ) → s.layout.pending b ≡ None) → k.first ≤ d.count → HasRun o d k
+  begun_run d m free later = record {
     legal = on_empty (λ es. Legal o es) tt;
     next = on_empty (λ es. (after_all o es).next ≡ length es) refl;
     at = on_empty (λ es. (after_all o es).at ≤ d.count) later;
@@ -85,6 +85,7 @@ module _ (k : Kernel) (s : State) (empty : k.history.items ≡ []) (committed : 
     mounted_now = subst (IsMounted k.sizes) (sym present_is) m;
     claimed = λ i b low le there. inl (subst (λ (x : State). is_claimed x b ≡ true) (state_is i ∙ sym present_is) there);
     waits = λ i b p le pends lt. absurd (omega (arith, le, lt, ap (λ (es : List Event). length es) empty));
+    pending = λ b p pends. absurd (let wrong : ◌≡◌ {A = Option ℕ} None (Some p) = sym (free b) ∙ ap (λ (x : State). x.layout.pending b) (sym present_is) ∙ pends in cc);
   }
     where
       none_there : {e : Event} (i : ℕ) → slice_get [] i ≡ Some e → ⊥

@@ -46,6 +46,7 @@ run_with o d e k run later log homes gathered ready job i j low order within = r
   mounted_now = run.mounted_now;
   claimed = λ p b from inside there. run.claimed p b (omega (arith, low, from)) inside there;
   waits = run.waits;
+  pending = run.pending;
 }
 
 pub broke_later : (writes : List (ℕ × List ℕ)) (a b : Device) → BrokeOff writes a b → a.count ≤ b.count

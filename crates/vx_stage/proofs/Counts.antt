@@ -1,11 +1,12 @@
 -- A stage is at most eight operations.
-use Rattle.std.proofs.Common.{◌≡◌, ℕ, suc, ◌+◌, ◌-◌, ◌≤◌, List, [], ◌∷◌, length, take, drop, Option, Some, None, refl, ap, arith, inl, inr, length-append, length-take}
-use Rattle.std.specs.Prelude.{min, slice_range}
+use Rattle.std.proofs.Common.{◌≡◌, ◌⊎◌, ℕ, suc, false, ◌+◌, ◌-◌, ◌<◌, ◌≤◌, List, [], ◌∷◌, length, take, drop, Option, Some, None, refl, ap, arith, inl, inr, length-append, length-take, length-drop}
+use Rattle.std.specs.Prelude.{min, slice_range, IsSome, IfSome}
+use Rattle.std.proofs.lemmas.Bool.{cases_lt, eqb-false}
 use Rattle.vx_dev.specs.declared.device.Operation.{Operation}
 use Rattle.vx_dev.specs.Tape.{State as Device, Failed, tried}
 use Rattle.vx_dev.specs.Runs.{Ran, BrokeOff, puts}
-use Rattle.vx_layout.specs.LogForms.{AfterImage, body_of}
-use Rattle.vx_log.specs.Logs.{stage_end, stage_writes}
+use Rattle.vx_layout.specs.LogForms.{AfterImage, body_of, log_length}
+use Rattle.vx_log.specs.Logs.{IsClosing, is_body_out, stage_end, stage_writes}
 use Rattle.vx_log.specs.Writes.{log_writes}
 use Rattle.vx_log.specs.declared.log.Closing.{Closing}
 
@@ -44,3 +45,36 @@ failed_few s bytes a b failed = elim failed.did [
   | inl done ↦ omega (arith, done.count)
   | inr nothing ↦ omega (arith, nothing.count)
 ]
+
+-- ... and none less
+
+pub ran_on : (writes : List (ℕ × List ℕ)) (a b : Device) → Ran (puts writes) a b → a.count ≤ b.count
+ran_on writes a b ran = omega (arith, ran.count)
+
+-- ---- a stage that has something to write does an operation
+
+pub ran_works : (writes : List (ℕ × List ℕ)) (a b : Device) → 0 < length writes → Ran (puts writes) a b → a.count < b.count
+ran_works writes a b some ran = omega (arith, some, ran.count, length-puts writes)
+
+part_some : {A : Type 0} (xs : List A) (from end : ℕ) → from < end → end ≤ length xs → 0 < length (slice_range xs from end)
+part_some xs from end lt le = omega (arith, lt, le, length-take (end - from) (drop from xs), length-drop from xs)
+
+pub homes_some : (homes : List AfterImage) (put : ℕ) → put < length homes → 0 < length (slice_range homes put (min (put + 8) (length homes)))
+homes_some homes put lt = part_some homes put (min (put + 8) (length homes)) (omega (arith, lt)) (omega arith)
+
+pub within_of : (n tail head : ℕ) (closing : Option Closing) → IfSome closing (IsClosing n tail head) → IfSome closing (λ c. c.written ≤ log_length (length c.batch))
+within_of n tail head None is = tt
+within_of n tail head (Some c) is = is.written
+
+pub body_some : (n head : ℕ) (closing : Option Closing) → ((position : ℕ) (batch : List AfterImage) → length (body_of position batch) ≡ log_length (length batch))
+    → IsSome closing → IfSome closing (λ c. c.written ≤ log_length (length c.batch)) → is_body_out closing ≡ false → 0 < length (stage_writes n head closing)
+body_some n head None lengths there within left = absurd cc
+body_some n head (Some c) lengths there within left = omega (
+  arith,
+  length-log_writes n (head + c.written) (slice_range (body_of head c.batch) c.written (stage_end c)),
+  part_some (body_of head c.batch) c.written (stage_end c) (omega (arith, not_out (cases_lt c.written (log_length (length c.batch))))) (omega (arith, lengths head c.batch)),
+)
+  where
+    not_out : (c.written < log_length (length c.batch)) ⊎ (log_length (length c.batch) ≤ c.written) → c.written < log_length (length c.batch)
+    not_out (inl lt) = lt
+    not_out (inr ge) = absurd (eqb-false c.written (log_length (length c.batch)) left (omega (arith, within, ge)))

@@ -27,7 +27,7 @@ use Rattle.vx_model.specs.Legal.{World, Waiting, DoAllowed, RetAllowed, IfThere,
 use Rattle.vx_model.specs.Step.{step}
 use Rattle.vx_model.specs.State.{State, Done}
 use Rattle.vx_model.specs.Waiting.{Waits, WaitingLaws}
-use Rattle.vx_stage.specs.Growths.{called_state, IsGrowth, FreesNone, MayDo, MayRefuse, MayAnswer}
+use Rattle.vx_stage.specs.Growths.{called_state, IsGrowth, FreesNone, IsInUse, MayDo, MayRefuse, MayAnswer, MayStop}
 use Rattle.vx_stage.specs.KernelLaws.{KernelLaws}
 use Rattle.vx_stage.specs.Kernels.{IsMounted, HasRun, present}
 use Rattle.vx_stage.specs.Leads.{IsYoung, AreYoung}
@@ -35,9 +35,9 @@ use Rattle.vx_stage.specs.declared.kernel.Kernel.{Kernel}
 use Rattle.vx_stage.proofs.Merging.{note_cases, is_right}
 use Rattle.vx_stage.proofs.Showing.{same_volume}
 
-waits_on : (here p : ℕ) (old new : Option ℕ) → (new ≡ old) ⊎ (new ≡ Some here) → new ≡ Some p → (old ≡ Some p) ⊎ (here ≤ p)
+waits_on : (here p : ℕ) (old new : Option ℕ) → (new ≡ old) ⊎ (new ≡ Some here) → new ≡ Some p → (old ≡ Some p) ⊎ (p ≡ here)
 waits_on here p old new (inl same) is = inl (sym same ∙ is)
-waits_on here p old new (inr fresh) is = let both : Some here ≡ Some p = sym fresh ∙ is in let e : here ≡ p = cc in inr (omega (arith, e))
+waits_on here p old new (inr fresh) is = let both : Some here ≡ Some p = sym fresh ∙ is in let e : here ≡ p = cc in inr (sym e)
 
 young_on : (here place b : ℕ) (s new : State) → place ≤ here → Waits here s new → IsYoung s place b → IsYoung new place b
 young_on here place b s new le waits young = elim young [
@@ -83,7 +83,7 @@ module _ (laws : WaitingLaws) (o : World) (d : Device) (k : Kernel) (at session 
 
   pub do_grows : IsGrowth o d k (event.Do at session line call reply)
   do_grows = record {
-    allowed = record { later = omega (arith, run.at, at_is); mounted = may.mounted; comes = may.allowed };
+    allowed = record { later = omega (arith, run.at, at_is); phase_is = may.mounted; comes = may.allowed };
     at = at_is;
     placed = tt;
     earned = tt;
@@ -104,10 +104,11 @@ not_space _ any_time short = absurd cc
 pub refused_state : (o : World) (k : Kernel) (session : ℕ) (call : Call) (why : Refusal) → is_any_time why ≡ true → called_state o k session call (say.Refused why) ≡ present o k
 refused_state o k session call why any_time = ap (λ (b : Bool). cond b (present o k) (state_after_step (present o k) (step (present o k) (after_all o k.history.items).next session call))) any_time
 
-pub refused_may : (o : World) (d : Device) (k : Kernel) (session line : ℕ) (call : Call) (why : Refusal) → HasRun o d k → MayRefuse o k session call why → MayDo o k session line call (say.Refused why)
+pub refused_may : (o : World) (d : Device) (k : Kernel) (session line : ℕ) (call : Call) (why : Refusal) → HasRun o d k → MayRefuse o k session line call why → MayDo o k session line call (say.Refused why)
 refused_may o d k session line call why run may = record {
   mounted = may.mounted;
   allowed = record {
+    numbered = may.numbered;
     idle = may.idle;
     reply_is = there (step (present o k) (after_all o k.history.items).next session call) may.built;
     all_released = λ short b. absurd (not_space why may.any_time short);
@@ -128,7 +129,7 @@ module _ (o : World) (d : Device) (k : Kernel) (at place : ℕ) (answer : Reply)
 
   pub answer_grows : IsGrowth o d k (event.Ret at place answer)
   answer_grows = record {
-    allowed = record { later = omega (arith, run.at, at_is); mounted = may.mounted; comes = may.allowed };
+    allowed = record { later = omega (arith, run.at, at_is); phase_is = may.mounted; comes = may.allowed };
     at = at_is;
     placed = here (map.get (after_all o k.history.items).waiting place) refl may.allowed;
     earned = may.earned;
@@ -139,6 +140,19 @@ module _ (o : World) (d : Device) (k : Kernel) (at place : ℕ) (answer : Reply)
 
   pub answer_quiet : k.job ≡ Broken → IsQuiet d.count (event.Ret at place answer)
   answer_quiet broken = inr (may.refused broken)
+
+-- ---- the end of a run that was stopped
+
+pub stop_grows : (o : World) (d : Device) (k : Kernel) (at : ℕ) → at ≡ d.count → HasRun o d k → MayStop o k → IsGrowth o d k (event.Stopped at)
+stop_grows o d k at at_is run may = record {
+  allowed = record { later = omega (arith, run.at, at_is); phase_is = may; comes = tt };
+  at = at_is;
+  placed = tt;
+  earned = tt;
+  mounted = run.mounted_now;
+  pending = λ b p is. inl is;
+  young = λ place b from inside young. young;
+}
 
 claim_some : {A B : Type 0} (f : A → B) (x : Option A) (y : B) → option_map f x ≡ Some y → is_some x ≡ true
 claim_some f None y h = absurd cc
@@ -177,9 +191,9 @@ unfolding claim_below
 same_claims l upto b zero = refl
 same_claims l upto b (suc n) = ap (or_claim (claim_among n b (blocks_at l n))) (same_claims l upto b n)
 
-pub release_grows : EditLaws → (o : World) (d : Device) (k : Kernel) (at : ℕ) → at ≡ d.count → HasRun o d k → (after_all o k.history.items).unmounted ≡ false → IsGrowth o d k (event.Release at k.committed)
+pub release_grows : EditLaws → (o : World) (d : Device) (k : Kernel) (at : ℕ) → at ≡ d.count → HasRun o d k → IsInUse o k → IsGrowth o d k (event.Release at k.committed)
 release_grows edits o d k at at_is run mounted = record {
-  allowed = record { later = omega (arith, run.at, at_is); mounted = mounted; comes = tt };
+  allowed = record { later = omega (arith, run.at, at_is); phase_is = mounted; comes = tt };
   at = at_is;
   placed = tt;
   earned = tt;

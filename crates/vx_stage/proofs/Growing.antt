@@ -155,10 +155,11 @@ removed_was m k q v is = by_cases (eq_by_cmp nat_cmp q k) (sym (map.get-remove n
 pub waiting_on : (w : World) (e : Event) → AreBefore w.next w → AreBefore (w.next + 1) (after w e)
 waiting_on w (event.Do at session line c reply) before place v is = elim (cases_eq place w.next) [
   | inl here ↦ omega (arith, here)
-  | inr other ↦ omega (arith, before place v (sym (at_other w.waiting w.next (record { session = session; line = line; reply = reply }) place other) ∙ is))
+  | inr other ↦ omega (arith, before place v (sym (at_other w.waiting w.next (record { session = session; line = line; call = c; reply = reply }) place other) ∙ is))
 ]
 waiting_on w (event.Ret at answered answer) before place v is = omega (arith, before place v (removed_was w.waiting answered place v is))
 waiting_on w (event.Release at upto) before place v is = omega (arith, before place v is)
+waiting_on w (event.Stopped at) before place v is = omega (arith, before place v is)
 waiting_on w (event.Unmounted at) before place v is = omega (arith, before place v is)
 waiting_on w _ before place v is = omega (arith, before place v is)
 
@@ -255,6 +256,10 @@ module _ (o : World) (d : Device) (k : Kernel) (e : Event) (run : HasRun o d k) 
             | inr new ↦ absurd (omega (arith, new, inside, below))
           ])
           (λ j high low below. now_pending b p pends) i (omega (arith, le, long, one_more h e)) lt);
+      pending = λ b p pends. elim (grows.pending b p (now_pending b p pends)) [
+        | inl before ↦ omega (arith, run.pending b p before, long)
+        | inr new ↦ omega (arith, new, long)
+      ];
     }
       where
         next_is : (x : Event) → (after (after_all o h) x).next ≡ (after_all o h).next + 1

@@ -110,7 +110,7 @@ module _ (o : World) (d : Device) (k : Kernel) (run : HasRun o d k) (over : IsOv
   now_e = at_is
 
   may_come : Allowed (after_all o h) e
-  may_come = record { later = omega (arith, run.at, at_is); mounted = over.unmounted; comes = over.waiting }
+  may_come = record { later = omega (arith, run.at, at_is); phase_is = over.mounted; comes = over.waiting }
 
   module _ (k2 : Kernel) (items : k2.history.items ≡ h ++ e ∷ []) (n : ℕ) (n_is : n ≡ length h + 1) where
     abbrev gone : Kernel
@@ -166,6 +166,7 @@ module _ (o : World) (d : Device) (k : Kernel) (run : HasRun o d k) (over : IsOv
           (each_prefix o d k e (λ j s. p < j → s.layout.pending b ≡ Some p)
           (λ j inside below. run.waits j b p inside (subst (λ (s : State). s.layout.pending b ≡ Some p) same_now pends) below)
           (λ j high low below. subst (λ (s : State). s.layout.pending b ≡ Some p) same_now pends) i (omega (arith, le, long, one_more h e)) lt);
+      pending = λ b p pends. omega (arith, long, run.pending b p (subst (λ (s : State). s.layout.pending b ≡ Some p) same_now pends));
     }
 
     -- the committed state is the present one, before and after

@@ -1,8 +1,8 @@
 -- What is kept says of each moment: every image is allowed. And the log begins to be emptied.
-use Rattle.std.proofs.Common.{◌≡◌, ℕ, ◌≤◌, List, length, Option, Some, None, subst, arith}
+use Rattle.std.proofs.Common.{◌≡◌, ℕ, ◌≤◌, List, [], length, ap, Option, Some, None, subst, arith}
 use Rattle.std.specs.Prelude.{IfSome}
 use Rattle.vx_dev.specs.Tape.{Tape, State as Device, IsImage, IsInStep}
-use Rattle.vx_layout.specs.LogForms.{LogState}
+use Rattle.vx_layout.specs.LogForms.{AfterImage, LogState}
 use Rattle.vx_layout.specs.Supers.{IsSuper}
 use Rattle.vx_log.specs.Crashes.{Stands}
 use Rattle.vx_dev.specs.Moments.{Told, Always}
@@ -61,3 +61,10 @@ homes_begun o k d job_is told = told_weaker d (IsLive o k) (IsLive o (record k {
     let r : LogState = live.reading in
     let now_ : Now k Idle o r t = subst (λ (j : Job). Now k j o r t) job_is live.now in
     record { past = live.past; reading = r; now = (other_job o k (Homes 0) k.committed r now_.0, record { stands = now_.1; home = λ j e lt. absurd (omega (arith, lt)) }) }) told
+
+-- ... and where nothing is noted, all is written
+pub homes_none : (o : World) (k : Kernel) (d : Device) → k.job ≡ Idle → k.homes ≡ [] → Told d (IsLive o k) → Told d (IsLive o (record k { job = HomesOut }))
+homes_none o k d job_is none told = told_weaker d (IsLive o k) (IsLive o (record k { job = HomesOut })) (λ t live.
+    let r : LogState = live.reading in
+    let now_ : Now k Idle o r t = subst (λ (j : Job). Now k j o r t) job_is live.now in
+    record { past = live.past; reading = r; now = (other_job o k HomesOut k.committed r now_.0, record { stands = now_.1; home = λ j e lt. absurd (omega (arith, lt, ap (λ (hs : List AfterImage). length hs) none)) }) }) told

@@ -1,6 +1,6 @@
 -- Blocks that were given up before the committed state are free, once the log is empty.
-use Rattle.std.proofs.Common.{◌≡◌, ℕ, ◌+◌, ◌<◌, ◌≤◌, Bool, true, false, List, [], ◌∷◌, ◌++◌, length, Option, Some, None, refl, sym, ap, subst, ◌∙◌, arith, inl, inr}
-use Rattle.std.specs.Prelude.{◌||◌, ◌==◌, ◌&&◌, is_some, nat_le, IsTrue, IfSome, option_map}
+use Rattle.std.proofs.Common.{◌≡◌, ℕ, ◌+◌, ◌-◌, ◌*◌, ◌%◌, ◌<◌, ◌≤◌, Bool, true, false, List, [], ◌∷◌, ◌++◌, length, Option, Some, None, refl, sym, ap, subst, ◌∙◌, arith, inl, inr}
+use Rattle.std.specs.Prelude.{◌||◌, ◌==◌, ◌&&◌, is_some, nat_le, nat_lt, IsTrue, IfSome, option_map}
 use Rattle.std.proofs.lemmas.Bool.Decides.{nat_tests}
 use Rattle.std.proofs.lemmas.Bool.{eqb-true}
 use Rattle.vx_base.specs.declared.event.Event.{Event}
@@ -9,7 +9,7 @@ use Rattle.vx_base.specs.declared.inode.DirEntry.{DirEntry}
 use Rattle.vx_dev.specs.Tape.{Tape, State as Device, IsInStep}
 use Rattle.vx_layout.specs.Dirs.{dir_bytes}
 use Rattle.vx_layout.specs.LogForms.{AfterImage, LogState}
-use Rattle.vx_layout.specs.Places.{Volume, is_data, block_sector, sector_part}
+use Rattle.vx_layout.specs.Places.{Volume, first_data, is_data, per_block, block_sector, sector_part}
 use Rattle.vx_layout.specs.Supers.{IsSuper, volume_of}
 use Rattle.vx_layout.specs.declared.superblock.Super.{Super}
 use Rattle.vx_dev.specs.Moments.{Told, Past}
@@ -40,7 +40,7 @@ not_more : (x y : Bool) → (IsTrue x → IsTrue y) → y ≡ false → x ≡ fa
 not_more false y f h = refl
 not_more true y f h = absurd (let wrong : true ≡ false = sym (f refl) ∙ h in cc)
 
-first_of : (t u v : Bool) → IsTrue (t && u && v) → t ≡ true
+first_of : (t u v : Bool) → IsTrue (t && (u && v)) → t ≡ true
 first_of true u v h = refl
 first_of false u v h = absurd cc
 
@@ -50,7 +50,8 @@ not_zero l x y h = grind (arith, nat_tests)
 -- a data block stands behind the superblock
 pub high : (v : Super) (x y : ℕ) → IsTrue (is_data (volume_of v) x) → (block_sector 2 x + y == 0) ≡ false
 unfolding is_data
-high v x y there = not_zero v.log_blocks x y (first_of (nat_le (2 + v.log_blocks) x) _ _ there)
+high v x y there = not_zero v.log_blocks x y
+    (first_of (nat_le (2 + v.log_blocks) x) (nat_lt (x - (2 + v.log_blocks)) (4096 * v.units)) (nat_le (first_data (per_block (volume_of v))) ((x - (2 + v.log_blocks)) % 4096)) there)
 
 module _ (laws : KernelLaws) (o : World) (d : Device) (k : Kernel) (at : ℕ) (is_super : IsSuper k.sizes) (run : HasRun o d k) (grows : IsGrowth o d k (event.Release at k.committed)) (job_is : k.job ≡ Idle) (empty : k.homes ≡ []) (level : k.closing ≡ k.committed) where
   abbrev e : Event

@@ -11,7 +11,7 @@ use Rattle.vx_model.specs.Allowed.{call_at, is_refusal}
 use Rattle.vx_model.specs.AllowedLaws.{IsPlaced}
 use Rattle.vx_model.specs.Layout.{is_free}
 use Rattle.vx_model.specs.LaidOut.{IsLaidOut}
-use Rattle.vx_model.specs.Legal.{World, Allowed, DoAllowed, RetAllowed, IfThere, is_any_time, is_idle, at_of, after, after_all, state_after}
+use Rattle.vx_model.specs.Legal.{World, in_use, stopping, Allowed, DoAllowed, RetAllowed, IfThere, is_any_time, is_idle, at_of, after, after_all, state_after}
 use Rattle.vx_model.specs.Step.{step}
 use Rattle.vx_model.specs.State.{State}
 use Rattle.vx_model.specs.Allowed.{has_front}
@@ -39,7 +39,7 @@ pub record IsGrowth (o : World) (d : dev.State) (k : Kernel) (e : Event) : Type 
   pub earned : IsEarned k e
   pub mounted : IsMounted k.sizes (next_state o k e)
   -- blocks begin to wait for this event alone, and what was claimed waits for it or is claimed
-  pub pending : (b p : ℕ) → (next_state o k e).layout.pending b ≡ Some p → ((present o k).layout.pending b ≡ Some p) ⊎ (length k.history.items ≤ p)
+  pub pending : (b p : ℕ) → (next_state o k e).layout.pending b ≡ Some p → ((present o k).layout.pending b ≡ Some p) ⊎ (p ≡ length k.history.items)
   pub young : (place b : ℕ) → k.committed ≤ place → place ≤ length k.history.items → IsYoung (present o k) place b → IsYoung (next_state o k e) place b
 
 -- ... and frees no block
@@ -60,7 +60,7 @@ called_state o k session c reply = state_after (present o k) (after_all o k.hist
 
 -- the file system is mounted still
 abbrev pub IsInUse : World → Kernel → Type 0
-IsInUse o k = (after_all o k.history.items).unmounted ≡ false
+IsInUse o k = (after_all o k.history.items).phase ≡ in_use
 
 -- The call may be done with this reply, and leaves a state that the device can hold.
 pub record MayDo (o : World) (k : Kernel) (session line : ℕ) (c : Call) (reply : Reply) : Type 0 where
@@ -69,8 +69,9 @@ pub record MayDo (o : World) (k : Kernel) (session line : ℕ) (c : Call) (reply
   pub laid_out : IsLaidOut (called_state o k session c reply)
 
 -- The call may be refused for a fault or for want of memory, and leaves all as it was.
-pub record MayRefuse (o : World) (k : Kernel) (session : ℕ) (c : Call) (why : Refusal) : Type 0 where
+pub record MayRefuse (o : World) (k : Kernel) (session line : ℕ) (c : Call) (why : Refusal) : Type 0 where
   pub mounted : IsInUse o k
+  pub numbered : 0 < line
   pub idle : is_idle (after_all o k.history.items) session ≡ true
   pub built : IfThere (step (present o k) (after_all o k.history.items).next session c) (λ _. Unit {0})
   pub any_time : is_any_time why ≡ true
@@ -82,7 +83,11 @@ pub record MayAnswer (o : World) (k : Kernel) (place : ℕ) (answer : Reply) : T
   pub earned : is_refusal answer ≡ false → IfSome (call_at k.history.items place) (λ c. has_front k.logging c ≡ true → place < k.committed)
   pub refused : k.job ≡ Broken → is_refusal answer ≡ true
 
+-- a Stop is answered, so that the run may end
+abbrev pub MayStop : World → Kernel → Type 0
+MayStop o k = (after_all o k.history.items).phase ≡ stopping
+
 -- each call is answered, so the file system may be left
 pub record IsOver (o : World) (k : Kernel) : Type 0 where
   pub waiting : map.len (after_all o k.history.items).waiting ≡ 0
-  pub unmounted : (after_all o k.history.items).unmounted ≡ false
+  pub mounted : IsInUse o k

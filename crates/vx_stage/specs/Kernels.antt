@@ -97,11 +97,11 @@ IsFew k = k.log.tail + length k.homes ≤ k.log.head
 -- what is to be in memory for each job
 abbrev pub JobFits : Job → Kernel → Type 0
 JobFits Idle k = IsNone k.log.closing × (k.closing ≡ k.committed) × (k.ready ≡ Some []) × IsFew k
-JobFits Body k = IsSome k.log.closing × IsFew k
+JobFits Body k = IsSome k.log.closing × IsFew k × (is_body_out k.log.closing ≡ false)
 JobFits BodyOut k = IsTrue (is_body_out k.log.closing) × IsFew k
 JobFits Head k = IsTrue (is_body_out k.log.closing) × IsFew k
 JobFits HeadOut k = IsNone k.log.closing × (k.ready ≡ Some []) × IsFew k
-JobFits (Homes put) k = IsNone k.log.closing × (k.closing ≡ k.committed) × (k.ready ≡ Some []) × (put ≤ length k.homes) × IsFew k
+JobFits (Homes put) k = IsNone k.log.closing × (k.closing ≡ k.committed) × (k.ready ≡ Some []) × (put < length k.homes) × IsFew k
 JobFits HomesOut k = IsNone k.log.closing × (k.closing ≡ k.committed) × (k.ready ≡ Some []) × IsFew k
 JobFits Tail k = IsNone k.log.closing × (k.closing ≡ k.committed) × (k.ready ≡ Some []) × IsFew k
 JobFits TailOut k = IsNone k.log.closing × (k.closing ≡ k.committed) × (k.ready ≡ Some []) × (k.homes ≡ []) × IsFew k
@@ -151,6 +151,8 @@ pub record HasRun (o : World) (d : dev.State) (k : Kernel) : Type 0 where
   -- a block that a later prefix than the committed one claims is claimed still, or waits for an event behind that prefix
   pub claimed : (i b : ℕ) → k.committed ≤ i → i ≤ length k.history.items → is_claimed (state_at o k.history.items i) b ≡ true → IsYoung (present o k) i b
   pub waits : (i b p : ℕ) → i ≤ length k.history.items → (present o k).layout.pending b ≡ Some p → p < i → (state_at o k.history.items i).layout.pending b ≡ Some p
+  -- blocks wait for events that have come
+  pub pending : (b p : ℕ) → (present o k).layout.pending b ≡ Some p → p < length k.history.items
 
 -- ---- the device
 

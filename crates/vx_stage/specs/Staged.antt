@@ -1,11 +1,11 @@
 -- What each stage does to the kernel in memory, where the device takes it.
-use Rattle.std.specs.Prelude.{false, ◌==◌, ◌+◌, ◌^◌, ℕ, [], length, min, nat_lt, Option, Some, None, if◌then◌else◌, List}
+use Rattle.std.specs.Prelude.{Bool, true, false, ◌==◌, ◌+◌, ◌^◌, ℕ, [], length, min, nat_lt, Option, Some, None, if◌then◌else◌, List}
 use Rattle.vx_layout.specs.LogForms.{AfterImage}
 use Rattle.vx_log.specs.Batches.{with_notes}
 use Rattle.vx_log.specs.Logs.{after_stage, is_body_out, opened, advanced, restarted}
 use Rattle.vx_log.specs.declared.log.Closing.{Closing}
 use Rattle.vx_stage.specs.declared.kernel.Job.{Job}
-use Rattle.vx_stage.specs.declared.kernel.Job.TheVariants.{Idle, Body, BodyOut, Head, HeadOut, Homes, HomesOut, Tail, TailOut, Leave, LeaveOut}
+use Rattle.vx_stage.specs.declared.kernel.Job.TheVariants.{Idle, Body, BodyOut, Head, HeadOut, Homes, HomesOut, Tail, TailOut, Leave, LeaveOut, Left, Broken}
 use Rattle.vx_stage.specs.declared.kernel.Kernel.{Kernel}
 
 abbrev pub closing_batch : Option Closing → List AfterImage
@@ -15,6 +15,18 @@ closing_batch (Some c) = c.batch
 -- so many of the noted sectors are written home
 abbrev pub homes_to : ℕ → ℕ → Job
 homes_to put count = if put == count then HomesOut else Homes put
+
+-- what comes first where the log is emptied
+abbrev pub homes_from : List AfterImage → Job
+homes_from homes = homes_to 0 (length homes)
+
+-- a stage of this job does an operation on the device
+abbrev pub has_stage : Job → Bool
+has_stage Idle = false
+has_stage LeaveOut = false
+has_stage Left = false
+has_stage Broken = false
+has_stage _ = true
 
 -- the kernel once the next stage of this job is done
 abbrev pub staged : Kernel → Job → Kernel

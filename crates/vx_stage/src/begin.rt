@@ -1,5 +1,5 @@
 //! Where a mount begins.
-ghost use Rattle.std.specs.Prelude.{◌≡◌, ◌<◌, ◌≤◌, ◌+◌, ◌^◌, ℕ, [], Some, IsNone, IfOk, OnOk};
+ghost use Rattle.std.specs.Prelude.{◌≡◌, ◌<◌, ◌≤◌, ◌+◌, ◌^◌, ℕ, [], Some, None, IsNone, IfOk, OnOk};
 ghost use Rattle.vx_log.specs.Logs.{fresh_log};
 ghost use Rattle.vx_mkfs.specs.Formats.{format_operations};
 ghost use Rattle.vx_base.specs.Faults.{HasCause};
@@ -48,7 +48,7 @@ impl Kernel {
         requires ready { room.ready ≡ [] }
         requires history { room.history.items ≡ [] }
         ensures fit { IsFitAlone result }
-        ensures run { (s : State) (d : Device) → IsMounted sizes s → first ≤ d.count → HasRun (opening first s) d result }
+        ensures run { (s : State) (d : Device) → IsMounted sizes s → ((b : ℕ) → s.layout.pending b ≡ None) → first ≤ d.count → HasRun (opening first s) d result }
         ensures live { (s : State) (d : Device) → IsMounted sizes s → first ≡ d.count → IsInStep d → Told d (IsBegun sizes s room.log.serial room.log.head) → Told d (IsLive (opening first s) result) }
         ensures same { result ≡ record { sizes = sizes; logging = logging; first = first; log = room.log; homes = room.homes; gathered = room.gathered; ready = Some room.ready; job = Idle; committed = 0; closing = 0; history = room.history } }
     {

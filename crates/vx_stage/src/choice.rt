@@ -5,7 +5,8 @@ ghost use Rattle.vx_layout.specs.LogForms.{log_length};
 ghost use Rattle.vx_dev.specs.Moments.{Told};
 ghost use Rattle.vx_model.specs.Legal.{World};
 ghost use Rattle.vx_stage.specs.Kernels.{IsFitAlone, HasRun, IsLive};
-ghost use Rattle.vx_stage.specs.declared.kernel.Job.TheVariants.{Idle, Body, Homes as HomesJob, Leave};
+ghost use Rattle.vx_stage.specs.Staged.{homes_from};
+ghost use Rattle.vx_stage.specs.declared.kernel.Job.TheVariants.{Idle, Body, Leave};
 
 use crate::kernel::Kernel;
 use vx_log::log_length;
@@ -34,7 +35,7 @@ impl Kernel {
         ensures all { self.old.gathered ≡ [] → result ≡ true }
         ensures none { result ≡ true → self.old.gathered ≡ [] }
         ensures same { result ≡ true → self.new ≡ record self.old { committed = self.new.committed; closing = self.new.committed } }
-        ensures begun { result ≡ false → (self.new.job ≡ Body) ⊎ (self.new.job ≡ HomesJob 0) }
+        ensures begun { result ≡ false → (self.new.job ≡ Body) ⊎ (self.new.job ≡ homes_from self.old.homes) }
         ensures closes { 0 < length self.old.gathered → self.old.log.tail ≡ self.old.log.head → self.old.log.head ≤ 2 ^ 61 → self.new.job ≡ Body }
         ensures history { self.new.history ≡ self.old.history }
         ensures sizes { self.new.sizes ≡ self.old.sizes }
@@ -62,7 +63,7 @@ impl Kernel {
         ensures fit { IsFitAlone self.new }
         ensures room { result ≡ nat_le sectors (self.old.log.sectors - (self.old.log.head - self.old.log.tail)) }
         ensures same { result ≡ true → self.new ≡ self.old }
-        ensures begun { result ≡ false → self.new ≡ record self.old { job = HomesJob 0 } }
+        ensures begun { result ≡ false → self.new ≡ record self.old { job = homes_from self.old.homes } }
         ensures run { (o : World) (d : Device) → HasRun o d self.old → HasRun o d self.new }
         ensures live { (o : World) (d : Device) → HasRun o d self.old → Told d (IsLive o self.old) → Told d (IsLive o self.new) }
     {
@@ -80,7 +81,7 @@ impl Kernel {
         requires fit { IsFitAlone self.old }
         ensures fit { IsFitAlone self.new }
         ensures ready { result ≡ true → (self.new.job ≡ Idle) × (self.new.homes ≡ []) × (self.new.committed ≡ length self.old.history.items) }
-        ensures begun { result ≡ false → (self.new.job ≡ Body) ⊎ (self.new.job ≡ HomesJob 0) }
+        ensures begun { result ≡ false → (self.new.job ≡ Body) ⊎ (self.new.job ≡ homes_from self.old.homes) }
         ensures history { self.new.history ≡ self.old.history }
         ensures sizes { self.new.sizes ≡ self.old.sizes }
         ensures run { (o : World) (d : Device) → HasRun o d self.old → HasRun o d self.new }
@@ -102,7 +103,7 @@ impl Kernel {
         requires job { self.old.job ≡ Idle }
         requires fit { IsFitAlone self.old }
         ensures fit { IsFitAlone self.new }
-        ensures begun { (self.new.job ≡ Body) ⊎ ((self.new.job ≡ HomesJob 0) ⊎ (self.new.job ≡ Leave)) }
+        ensures begun { (self.new.job ≡ Body) ⊎ ((self.new.job ≡ homes_from self.old.homes) ⊎ (self.new.job ≡ Leave)) }
         ensures leaves { self.old.gathered ≡ [] → self.old.log.tail ≡ self.old.log.head → self.new.job ≡ Leave }
         ensures history { self.new.history ≡ self.old.history }
         ensures sizes { self.new.sizes ≡ self.old.sizes }

@@ -1,14 +1,14 @@
 //! The log and the homes of a mount, one device stage a turn.
-ghost use Rattle.std.specs.Prelude.{◌≡◌, ◌^◌, ◌<◌, ◌≤◌, ◌++◌, ◌∷◌, [], ◌+◌, length, All, OnOk, OnErr, vec_len, vec_capacity};
+ghost use Rattle.std.specs.Prelude.{◌≡◌, ◌^◌, ◌<◌, ◌≤◌, ◌++◌, ◌∷◌, [], ◌+◌, length, true, All, OnOk, OnErr, vec_len, vec_capacity};
 ghost use Rattle.vx_base.specs.Faults.{HasCause};
 ghost use Rattle.vx_dev.specs.Tape.{IsInStep, State as Device};
-ghost use Rattle.vx_stage.specs.Growths.{IsBusy, IsInUse, IsOver, MayDo, MayRefuse, MayAnswer, called_state};
+ghost use Rattle.vx_stage.specs.Growths.{IsBusy, IsInUse, IsOver, MayDo, MayRefuse, MayAnswer, MayStop, called_state};
 ghost use Rattle.vx_base.specs.declared.event.Event.TheVariants as event;
 ghost use Rattle.vx_base.specs.declared.reply.Reply.TheVariants as say;
 ghost use Rattle.vx_model.specs.Images.{IsBatch};
 ghost use Rattle.vx_layout.specs.LogForms.{log_length};
 ghost use Rattle.vx_log.specs.Logs.{closed, advanced, restarted};
-ghost use Rattle.vx_stage.specs.Staged.{staged};
+ghost use Rattle.vx_stage.specs.Staged.{has_stage, homes_from, staged};
 ghost use Rattle.vx_layout.specs.Supers.{IsSuper};
 ghost use Rattle.vx_stage.specs.Leads.{Leads, AreYoung};
 ghost use Rattle.vx_log.specs.Batches.{with_notes};
@@ -106,12 +106,16 @@ impl Kernel {
         requires job { self.old.job ≡ Idle }
         requires fit { IsFitAlone self.old }
         ensures fit { IsFitAlone self.new }
-        ensures job { self.new.job ≡ HomesJob 0 }
+        ensures job { self.new.job ≡ homes_from self.old.homes }
         ensures run { (o : World) (d : Device) → HasRun o d self.old → HasRun o d self.new }
         ensures live { (o : World) (d : Device) → HasRun o d self.old → Told d (IsLive o self.old) → Told d (IsLive o self.new) }
-        ensures same { self.new ≡ record self.old { job = HomesJob 0 } }
+        ensures same { self.new ≡ record self.old { job = homes_from self.old.homes } }
     {
-        self.job = Job::Homes { put: 0 };
+        self.job = if self.homes.len() == 0 {
+            Job::HomesOut
+        } else {
+            Job::Homes { put: 0 }
+        };
     }
 
     /// Does the next stage of the job: up to eight sectors, or a barrier. Nothing where there is none. `docs/LOG.md` ("In stages") says
@@ -129,6 +133,9 @@ impl Kernel {
         ensures done { OnOk result (self.new ≡ staged self.old self.old.job) }
         ensures broken { OnErr result (self.new.job ≡ Broken) }
         ensures few { (D.state dev.new).count ≤ (D.state dev.old).count + 8 }
+        ensures later { (D.state dev.old).count ≤ (D.state dev.new).count }
+        ensures size { (D.state dev.new).size ≡ (D.state dev.old).size }
+        ensures works { OnOk result (has_stage self.old.job ≡ true → (D.state dev.old).count < (D.state dev.new).count) }
         ensures cause { HasCause (D.state dev.old).write_faults (D.state dev.new).write_faults result }
     {
         match self.job {
@@ -162,6 +169,9 @@ impl Kernel {
         ensures done { OnOk result (self.new ≡ staged self.old Body) }
         ensures broken { OnErr result (self.new.job ≡ Broken) }
         ensures few { (D.state dev.new).count ≤ (D.state dev.old).count + 8 }
+        ensures later { (D.state dev.old).count ≤ (D.state dev.new).count }
+        ensures size { (D.state dev.new).size ≡ (D.state dev.old).size }
+        ensures works { OnOk result ((D.state dev.old).count < (D.state dev.new).count) }
         ensures cause { HasCause (D.state dev.old).write_faults (D.state dev.new).write_faults result }
     {
         // The proof rests on these laws; nothing runs here.
@@ -185,6 +195,9 @@ impl Kernel {
         ensures done { OnOk result (self.new ≡ staged self.old BodyOut) }
         ensures broken { OnErr result (self.new.job ≡ Broken) }
         ensures few { (D.state dev.new).count ≤ (D.state dev.old).count + 8 }
+        ensures later { (D.state dev.old).count ≤ (D.state dev.new).count }
+        ensures size { (D.state dev.new).size ≡ (D.state dev.old).size }
+        ensures works { OnOk result ((D.state dev.old).count < (D.state dev.new).count) }
         ensures cause { HasCause (D.state dev.old).write_faults (D.state dev.new).write_faults result }
     {
         // The proof rests on these laws; nothing runs here.
@@ -208,6 +221,9 @@ impl Kernel {
         ensures done { OnOk result (self.new ≡ staged self.old Head) }
         ensures broken { OnErr result (self.new.job ≡ Broken) }
         ensures few { (D.state dev.new).count ≤ (D.state dev.old).count + 8 }
+        ensures later { (D.state dev.old).count ≤ (D.state dev.new).count }
+        ensures size { (D.state dev.new).size ≡ (D.state dev.old).size }
+        ensures works { OnOk result ((D.state dev.old).count < (D.state dev.new).count) }
         ensures cause { HasCause (D.state dev.old).write_faults (D.state dev.new).write_faults result }
     {
         // The proof rests on these laws; nothing runs here.
@@ -236,6 +252,9 @@ impl Kernel {
         ensures done { OnOk result (self.new ≡ staged self.old HeadOut) }
         ensures broken { OnErr result (self.new ≡ record self.old { job = Broken }) }
         ensures few { (D.state dev.new).count ≤ (D.state dev.old).count + 8 }
+        ensures later { (D.state dev.old).count ≤ (D.state dev.new).count }
+        ensures size { (D.state dev.new).size ≡ (D.state dev.old).size }
+        ensures works { OnOk result ((D.state dev.old).count < (D.state dev.new).count) }
         ensures cause { HasCause (D.state dev.old).write_faults (D.state dev.new).write_faults result }
     {
         // The proof rests on these laws; nothing runs here.
@@ -258,6 +277,9 @@ impl Kernel {
         ensures done { OnOk result (self.new ≡ staged self.old (HomesJob put)) }
         ensures broken { OnErr result (self.new.job ≡ Broken) }
         ensures few { (D.state dev.new).count ≤ (D.state dev.old).count + 8 }
+        ensures later { (D.state dev.old).count ≤ (D.state dev.new).count }
+        ensures size { (D.state dev.new).size ≡ (D.state dev.old).size }
+        ensures works { OnOk result ((D.state dev.old).count < (D.state dev.new).count) }
         ensures cause { HasCause (D.state dev.old).write_faults (D.state dev.new).write_faults result }
     {
         // The proof rests on these laws; nothing runs here.
@@ -283,6 +305,9 @@ impl Kernel {
         ensures done { OnOk result (self.new ≡ staged self.old HomesOut) }
         ensures broken { OnErr result (self.new.job ≡ Broken) }
         ensures few { (D.state dev.new).count ≤ (D.state dev.old).count + 8 }
+        ensures later { (D.state dev.old).count ≤ (D.state dev.new).count }
+        ensures size { (D.state dev.new).size ≡ (D.state dev.old).size }
+        ensures works { OnOk result ((D.state dev.old).count < (D.state dev.new).count) }
         ensures cause { HasCause (D.state dev.old).write_faults (D.state dev.new).write_faults result }
     {
         // The proof rests on these laws; nothing runs here.
@@ -304,6 +329,9 @@ impl Kernel {
         ensures done { OnOk result (self.new ≡ record self.old { log = advanced self.old.log self.old.log.head; homes = []; job = TailOut }) }
         ensures broken { OnErr result (self.new.job ≡ Broken) }
         ensures few { (D.state dev.new).count ≤ (D.state dev.old).count + 8 }
+        ensures later { (D.state dev.old).count ≤ (D.state dev.new).count }
+        ensures size { (D.state dev.new).size ≡ (D.state dev.old).size }
+        ensures works { OnOk result ((D.state dev.old).count < (D.state dev.new).count) }
         ensures cause { HasCause (D.state dev.old).write_faults (D.state dev.new).write_faults result }
     {
         // The proof rests on these laws; nothing runs here.
@@ -328,6 +356,9 @@ impl Kernel {
         ensures done { OnOk result (self.new ≡ record self.old { log = restarted self.old.log; homes = []; job = TailOut }) }
         ensures broken { OnErr result (self.new.job ≡ Broken) }
         ensures few { (D.state dev.new).count ≤ (D.state dev.old).count + 8 }
+        ensures later { (D.state dev.old).count ≤ (D.state dev.new).count }
+        ensures size { (D.state dev.new).size ≡ (D.state dev.old).size }
+        ensures works { OnOk result ((D.state dev.old).count < (D.state dev.new).count) }
         ensures cause { HasCause (D.state dev.old).write_faults (D.state dev.new).write_faults result }
     {
         // The proof rests on these laws; nothing runs here.
@@ -350,6 +381,9 @@ impl Kernel {
         ensures done { OnOk result (self.new ≡ staged self.old TailOut) }
         ensures broken { OnErr result (self.new.job ≡ Broken) }
         ensures few { (D.state dev.new).count ≤ (D.state dev.old).count + 8 }
+        ensures later { (D.state dev.old).count ≤ (D.state dev.new).count }
+        ensures size { (D.state dev.new).size ≡ (D.state dev.old).size }
+        ensures works { OnOk result ((D.state dev.old).count < (D.state dev.new).count) }
         ensures cause { HasCause (D.state dev.old).write_faults (D.state dev.new).write_faults result }
     {
         // The proof rests on these laws; nothing runs here.
@@ -389,6 +423,9 @@ impl Kernel {
         ensures done { OnOk result (self.new ≡ staged self.old Leave) }
         ensures broken { OnErr result (self.new.job ≡ Broken) }
         ensures few { (D.state dev.new).count ≤ (D.state dev.old).count + 8 }
+        ensures later { (D.state dev.old).count ≤ (D.state dev.new).count }
+        ensures size { (D.state dev.new).size ≡ (D.state dev.old).size }
+        ensures works { OnOk result ((D.state dev.old).count < (D.state dev.new).count) }
         ensures cause { HasCause (D.state dev.old).write_faults (D.state dev.new).write_faults result }
     {
         // The proof rests on these laws; nothing runs here.
@@ -418,7 +455,11 @@ impl Kernel {
         ensures job { OnOk result (self.new.job ≡ Left) }
         ensures broken { OnErr result (self.new ≡ record self.old { job = Broken }) }
         ensures few { (D.state dev.new).count ≤ (D.state dev.old).count + 8 }
+        ensures later { (D.state dev.old).count ≤ (D.state dev.new).count }
+        ensures size { (D.state dev.new).size ≡ (D.state dev.old).size }
+        ensures works { OnOk result ((D.state dev.old).count < (D.state dev.new).count) }
         ensures cause { HasCause (D.state dev.old).write_faults (D.state dev.new).write_faults result }
+        ensures capacity { vec_capacity self.old.history ≤ vec_capacity self.new.history }
     {
         // The proof rests on these laws; nothing runs here.
         kernel_laws();
@@ -486,9 +527,26 @@ impl Kernel {
         ensures run { (o : World) → HasRun o (D.state dev.now) self.old → MayAnswer o self.old place answer → HasRun o (D.state dev.now) self.new }
         ensures live { (o : World) → HasRun o (D.state dev.now) self.old → MayAnswer o self.old place answer → Told (D.state dev.now) (IsLive o self.old) → Told (D.state dev.now) (IsLive o self.new) }
         ensures same { self.new ≡ record self.old { history = self.new.history } }
+        ensures capacity { vec_capacity self.old.history ≤ vec_capacity self.new.history }
     {
         let at = dev.ops();
         self.history.push_reserved(Event::Ret { at, place, answer });
+    }
+
+    /// Notes that the run was stopped, behind the answer of a Stop.
+    pub fn stopped<D: BlockDev>(&mut self, dev: &D)
+        requires fit { IsFit (D.state dev.now) self.old }
+        requires free { IsBusy self.old.job → ⊥ }
+        requires room { vec_len self.old.history < vec_capacity self.old.history }
+        ensures fit { IsFit (D.state dev.now) self.new }
+        ensures items { self.new.history.items ≡ self.old.history.items ++ event.Stopped (D.state dev.now).count ∷ [] }
+        ensures run { (o : World) → HasRun o (D.state dev.now) self.old → MayStop o self.old → HasRun o (D.state dev.now) self.new }
+        ensures live { (o : World) → HasRun o (D.state dev.now) self.old → MayStop o self.old → Told (D.state dev.now) (IsLive o self.old) → Told (D.state dev.now) (IsLive o self.new) }
+        ensures same { self.new ≡ record self.old { history = self.new.history } }
+        ensures capacity { vec_capacity self.old.history ≤ vec_capacity self.new.history }
+    {
+        let at = dev.ops();
+        self.history.push_reserved(Event::Stopped { at });
     }
 
     /// Notes a call that is refused for a fault of the device or for want of memory.
@@ -498,9 +556,10 @@ impl Kernel {
         requires room { vec_len self.old.history < vec_capacity self.old.history }
         ensures fit { IsFit (D.state dev.now) self.new }
         ensures items { self.new.history.items ≡ self.old.history.items ++ event.Do (D.state dev.now).count session line call (say.Refused why) ∷ [] }
-        ensures run { (o : World) → HasRun o (D.state dev.now) self.old → MayRefuse o self.old session call why → HasRun o (D.state dev.now) self.new }
-        ensures live { (o : World) → HasRun o (D.state dev.now) self.old → MayRefuse o self.old session call why → Told (D.state dev.now) (IsLive o self.old) → Told (D.state dev.now) (IsLive o self.new) }
+        ensures run { (o : World) → HasRun o (D.state dev.now) self.old → MayRefuse o self.old session line call why → HasRun o (D.state dev.now) self.new }
+        ensures live { (o : World) → HasRun o (D.state dev.now) self.old → MayRefuse o self.old session line call why → Told (D.state dev.now) (IsLive o self.old) → Told (D.state dev.now) (IsLive o self.new) }
         ensures same { self.new ≡ record self.old { history = self.new.history } }
+        ensures capacity { vec_capacity self.old.history ≤ vec_capacity self.new.history }
     {
         // The proof rests on these laws; nothing runs here.
         waiting_laws();
@@ -526,6 +585,7 @@ impl Kernel {
         ensures run { (o : World) → HasRun o (D.state dev.now) self.old → IsInUse o self.old → HasRun o (D.state dev.now) self.new }
         ensures live { (o : World) → HasRun o (D.state dev.now) self.old → IsInUse o self.old → Told (D.state dev.now) (IsLive o self.old) → Told (D.state dev.now) (IsLive o self.new) }
         ensures same { self.new ≡ record self.old { history = self.new.history } }
+        ensures capacity { vec_capacity self.old.history ≤ vec_capacity self.new.history }
     {
         // The proof rests on these laws; nothing runs here.
         kernel_laws();
@@ -559,6 +619,7 @@ impl Kernel {
             → IsBatch (volume_of self.old.sizes) (parsed_of (present o self.old)) (parsed_of (called_state o self.old session call reply)) transaction.now
             → Told (D.state dev.now) (IsLive o self.old) → Told (D.state dev.now) (IsLive o self.new) }
         ensures same { self.new ≡ record self.old { gathered = self.new.gathered; history = self.new.history } }
+        ensures capacity { vec_capacity self.old.history ≤ vec_capacity self.new.history }
     {
         // The proof rests on these laws, and on what every batch is.
         kernel_laws();

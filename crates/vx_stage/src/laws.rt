@@ -1,5 +1,9 @@
 //! Laws that the stages rest on.
+ghost use Rattle.std.specs.Prelude.{◌≡◌};
+ghost use Rattle.vx_dev.specs.Tape.{State as Device};
 ghost use Rattle.vx_stage.specs.KernelLaws.{KernelLaws};
+ghost use Rattle.vx_stage.specs.Kernels.{IsFit, IsFitAlone};
+ghost use Rattle.vx_stage.specs.declared.kernel.Kernel.{Kernel};
 ghost use Rattle.vx_stage.specs.MergeLaws.{MergeLaws};
 
 use vx_dev::tape_laws;
@@ -13,6 +17,12 @@ use vx_model::states::state_reads;
 /// Batches join, and what the log says with one.
 pub fn merge_laws()
     ensures { MergeLaws }
+{}
+
+/// What a kernel keeps in memory, with a device that is large enough.
+pub fn fit_laws()
+    ensures alone { (d : Device) (k : Kernel) → IsFit d k → IsFitAlone k }
+    ensures device { (d e : Device) (old new : Kernel) → IsFit d old → IsFitAlone new → new.sizes ≡ old.sizes → e.size ≡ d.size → IsFit e new }
 {}
 
 /// The laws of the tape, of the log and of images, as the stages use them.

@@ -1,4 +1,4 @@
-use Rattle.std.proofs.Common.{ℕ, sym, subst, lit≤, arith}
+use Rattle.std.proofs.Common.{ℕ, refl, sym, subst, lit≤, arith}
 use Rattle.vx_layout.specs.Supers.{volume_of}
 use Rattle.vx_log.specs.Logs.{LogView}
 use Rattle.vx_dev.specs.Moments.{Told}
@@ -15,7 +15,7 @@ returns-clause-run g c =
     let d = g.D.BlockDev.state c.make.new.dev in
     let laid = c.fresh_reads.ensures.laid_out v 1 size c.requires.is (lit≤ tt) c.requires.size in
     subst (λ (n : ℕ). HasRun (opening n (new v size)) d c.begin.result) c.ops-first.ensures.number
-    (c.begin.ensures.run (new v size) d (mounted v size laid) (omega (arith, c.ops-first.ensures.number)))
+    (c.begin.ensures.run (new v size) d (mounted v size laid) (λ b. refl) (omega (arith, c.ops-first.ensures.number)))
 
 pub returns-clause-live : goal.returns-clause-live
 returns-clause-live g c =

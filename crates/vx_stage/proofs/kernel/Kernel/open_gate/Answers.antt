@@ -95,3 +95,6 @@ returns-clause-done g c =
 
 pub returns-in_err-open_gate-clause-few : goal.returns-in_err-open_gate-clause-few
 returns-in_err-open_gate-clause-few g c = failed_few _ _ _ _ c.in_err-open_gate.ensures.failed
+
+pub returns-in_err-open_gate-clause-later : goal.returns-in_err-open_gate-clause-later
+returns-in_err-open_gate-clause-later g c = failed_later _ _ _ _ c.in_err-open_gate.ensures.failed

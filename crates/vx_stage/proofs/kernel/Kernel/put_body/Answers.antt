@@ -1,4 +1,4 @@
-use Rattle.vx_stage.proofs.Counts.{body_few, ran_few, broke_few}
+use Rattle.vx_stage.proofs.Counts.{body_few, ran_few, broke_few, ran_on, ran_works, body_some, within_of}
 use Rattle.std.proofs.Common.{arith, inl, inr, subst}
 use Rattle.vx_stage.specs.declared.kernel.Job.{Job}
 use Rattle.vx_stage.specs.Kernels.{JobFits}
@@ -41,3 +41,15 @@ returns-clause-few g c = ran_few _ _ _ (body_few c.args.self.now.log.sectors c.a
 
 pub returns-in_err-out-clause-few : goal.returns-in_err-out-clause-few
 returns-in_err-out-clause-few g c = broke_few _ _ _ (body_few c.args.self.now.log.sectors c.args.self.now.log.head c.args.self.now.log.closing) c.in_err-out.ensures.err
+
+pub returns-clause-later : goal.returns-clause-later
+returns-clause-later g c = ran_on _ _ _ c.in_ok-out.ensures.ok
+
+pub returns-in_err-out-clause-later : goal.returns-in_err-out-clause-later
+returns-in_err-out-clause-later g c = broke_later _ _ _ c.in_err-out.ensures.err
+
+pub returns-clause-works : goal.returns-clause-works
+returns-clause-works g c =
+    let k = c.args.self.now in
+    let fits = subst (λ (j : Job). JobFits j k) c.requires.job c.requires.fit.job in
+    ran_works _ _ _ (body_some k.log.sectors k.log.head k.log.closing c.kernel_laws.ensures.body_length fits.0 (within_of _ _ _ k.log.closing c.head-head.ensures.log.closing) fits.2) c.in_ok-out.ensures.ok

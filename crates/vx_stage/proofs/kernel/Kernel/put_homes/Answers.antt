@@ -1,4 +1,4 @@
-use Rattle.vx_stage.proofs.Counts.{homes_few, ran_few, broke_few}
+use Rattle.vx_stage.proofs.Counts.{homes_few, ran_few, broke_few, ran_on, ran_works, homes_some}
 use Rattle.std.proofs.Common.{◌≡◌, ◌+◌, length, sym, subst, ℕ, arith}
 use Rattle.std.specs.Prelude.{min}
 use Rattle.vx_dev.specs.Moments.{Told}
@@ -22,11 +22,11 @@ returns-clause-live g c = λ o run told.
     let fits = subst (λ (j : Job). JobFits j k) c.requires.job c.requires.fit.job in
     elim c.if-end-len.branch [
       | then-end-len w ↦ subst (λ (j : Job). Told b (IsLive o (record k { job = j }))) (sym w.self-is)
-          (homes_out c.kernel_laws.ensures o k a c.requires.fit.sizes run (g.met.D.BlockDev.in_step c.args.dev.now) b put end c.requires.job (min_above put (length k.homes) fits.3) (min_below (put + 8) (length k.homes)) c.len.ensures.homes.rising
+          (homes_out c.kernel_laws.ensures o k a c.requires.fit.sizes run (g.met.D.BlockDev.in_step c.args.dev.now) b put end c.requires.job (min_above put (length k.homes) (omega (arith, fits.3))) (min_below (put + 8) (length k.homes)) c.len.ensures.homes.rising
           (let all : end ≡ length k.homes = omega (arith, w.if-end-len.true, c.in_ok-end.ensures.end, c.len.ensures.number) in all) c.in_ok-end.ensures.ran told)
       | else-end-len w ↦ subst (λ (j : Job). Told b (IsLive o (record k { job = j }))) (sym w.self-is)
           (subst (λ (n : ℕ). Told b (IsLive o (record k { job = Homes n }))) (sym c.in_ok-end.ensures.end)
-          (homes_more c.kernel_laws.ensures o k a c.requires.fit.sizes run (g.met.D.BlockDev.in_step c.args.dev.now) b put end c.requires.job (min_above put (length k.homes) fits.3) (min_below (put + 8) (length k.homes)) c.len.ensures.homes.rising
+          (homes_more c.kernel_laws.ensures o k a c.requires.fit.sizes run (g.met.D.BlockDev.in_step c.args.dev.now) b put end c.requires.job (min_above put (length k.homes) (omega (arith, fits.3))) (min_below (put + 8) (length k.homes)) c.len.ensures.homes.rising
           c.in_ok-end.ensures.ran told))
     ]
 
@@ -36,7 +36,7 @@ returns-in_err-end-clause-live g c = λ o run told.
     let put = c.args.put in
     let fits = subst (λ (j : Job). JobFits j k) c.requires.job c.requires.fit.job in
     homes_broke c.kernel_laws.ensures o k (g.D.BlockDev.state c.args.dev.now) c.requires.fit.sizes run (g.met.D.BlockDev.in_step c.args.dev.now) (g.D.BlockDev.state c.put_some.new.dev) put (min (put + 8) (length k.homes)) c.requires.job
-    (min_above put (length k.homes) fits.3) (min_below (put + 8) (length k.homes)) c.put_some.ensures.homes.rising c.in_err-end.ensures.broke told
+    (min_above put (length k.homes) (omega (arith, fits.3))) (min_below (put + 8) (length k.homes)) c.put_some.ensures.homes.rising c.in_err-end.ensures.broke told
 
 pub returns-clause-run : goal.returns-clause-run
 returns-clause-run g c = λ o run.
@@ -53,3 +53,15 @@ returns-clause-few g c = ran_few _ _ _ (homes_few c.args.self.now.homes c.args.p
 
 pub returns-in_err-end-clause-few : goal.returns-in_err-end-clause-few
 returns-in_err-end-clause-few g c = broke_few _ _ _ (homes_few c.args.self.now.homes c.args.put) c.in_err-end.ensures.broke
+
+pub returns-clause-later : goal.returns-clause-later
+returns-clause-later g c = ran_on _ _ _ c.in_ok-end.ensures.ran
+
+pub returns-in_err-end-clause-later : goal.returns-in_err-end-clause-later
+returns-in_err-end-clause-later g c = broke_later _ _ _ c.in_err-end.ensures.broke
+
+pub returns-clause-works : goal.returns-clause-works
+returns-clause-works g c =
+    let k = c.args.self.now in
+    let fits = subst (λ (j : Job). JobFits j k) c.requires.job c.requires.fit.job in
+    ran_works _ _ _ (homes_some k.homes c.args.put fits.3) c.in_ok-end.ensures.ran

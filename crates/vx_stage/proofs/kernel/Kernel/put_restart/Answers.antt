@@ -39,3 +39,6 @@ returns-in_err-restart-clause-run g c = λ o run.
 
 pub returns-in_err-restart-clause-few : goal.returns-in_err-restart-clause-few
 returns-in_err-restart-clause-few g c = failed_few _ _ _ _ c.in_err-restart.ensures.failed
+
+pub returns-in_err-restart-clause-later : goal.returns-in_err-restart-clause-later
+returns-in_err-restart-clause-later g c = failed_later _ _ _ _ c.in_err-restart.ensures.failed

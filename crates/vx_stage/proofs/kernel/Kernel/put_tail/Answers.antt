@@ -43,3 +43,6 @@ returns-in_err-advance_tail-clause-run g c = λ o run.
 
 pub returns-in_err-advance_tail-clause-few : goal.returns-in_err-advance_tail-clause-few
 returns-in_err-advance_tail-clause-few g c = failed_few _ _ _ _ c.in_err-advance_tail.ensures.failed
+
+pub returns-in_err-advance_tail-clause-later : goal.returns-in_err-advance_tail-clause-later
+returns-in_err-advance_tail-clause-later g c = failed_later _ _ _ _ c.in_err-advance_tail.ensures.failed
