@@ -8,6 +8,10 @@ use crate::lines::cut_at;
 use crate::words::{Word, is_word};
 use vx_base::{Flag, Tunable};
 
+/// The greatest number of sessions of a script by now, and with more than one it may have a schedule; with its definition the one place
+/// that switches these off.
+pub const BUILT_SESSIONS: u64 = 1;
+
 /// The commands of a script.
 #[derive(Clone, Copy, Debug, PartialEq, Eq)]
 pub enum CommandName {

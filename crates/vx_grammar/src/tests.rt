@@ -1,6 +1,8 @@
 use crate::commands::call_of;
+use crate::groups::by_session;
 use crate::keywords::CommandName;
 use crate::order::left_over;
+use crate::reader::Command;
 use crate::why::LineFault;
 use crate::words::words_of_line;
 use crate::{ScriptRefusal, Why, parse};
@@ -28,12 +30,11 @@ fn reads_four_lines(rt: HostRuntime) -> Result<(), Fail> {
 fn reads_a_script(rt: HostRuntime) -> Result<(), Fail> {
     let alloc = rt.alloc();
     let text =
-        b"# \\ any \xff byte\n\n   \n  sessions   2  \nschedule 0 1\n#\nschedule 1\n 1  list /\n0 st\\x61t \\x2fa\\x20\\x5cb\n1 create /a 644";
+        b"# \\ any \xff byte\n\n   \n  sessions   1  \n#\n 0  list /\n0 st\\x61t \\x2fa\\x20\\x5cb\n0 create /a 644";
     let Ok(script) = parse(alloc, text) else {
         return Err(Fail::from("refused"));
     };
-    assert!(rt; script.sessions == 2);
-    assert!(rt; script.schedule == Some(bytes(alloc, b"\x00\x01\x01")?));
+    assert!(rt; script.sessions == 1 && script.schedule.is_none());
     let stat = Call::Stat {
         path: bytes(alloc, b"/a \\b")?,
     };
@@ -41,21 +42,21 @@ fn reads_a_script(rt: HostRuntime) -> Result<(), Fail> {
         path: bytes(alloc, b"/a")?,
         mode: 0o644,
     };
-    assert!(rt; script.lines.count(0) == 1 && script.lines.count(1) == 2);
-    assert!(rt; script.lines.get(0, 0) == Some(&stat));
-    assert!(rt; script.lines.get(1, 1) == Some(&create));
+    assert!(rt; script.lines.count(0) == 3);
+    assert!(rt; script.lines.get(0, 1) == Some(&stat));
+    assert!(rt; script.lines.get(0, 2) == Some(&create));
     Ok(())
 }
 
-const BAD_LINES: [(&[u8], u32, Why); 24] = [
+const BAD_LINES: [(&[u8], u32, Why); 25] = [
     (b"", 1, Why::Sessions),
     (b"# a\n\n", 3, Why::Sessions),
     (b"sessions 17", 1, Why::Sessions),
     (b"sessions 01", 1, Why::Sessions),
     (b"0 list /", 1, Why::Sessions),
     (b"\t\nsessions 1", 1, Why::Sessions),
-    (b"sessions 2\n2 list /", 2, Why::Sessions),
-    (b"sessions 2\n0 list /\nschedule 0", 3, Why::Sessions),
+    (b"sessions 2\n0 list /", 1, Why::Sessions),
+    (b"sessions 1\n0 list /\nschedule 0", 3, Why::Sessions),
     (b"sessions 1\n1 frob \\", 2, Why::Sessions),
     (b"\n# a\n\nsessions 1\n\n0 frob", 6, Why::Unknown),
     (b"sessions 1\n0", 2, Why::Unknown),
@@ -63,8 +64,9 @@ const BAD_LINES: [(&[u8], u32, Why); 24] = [
     (b"sessions 1\n0 sync\n0 create /a 9", 2, Why::Unknown),
     (b"sessions 1\n0 unlink", 2, Why::Words),
     (b"sessions 1\n0 mkdir \\ 9 9", 2, Why::Words),
-    (b"sessions 1\nschedule", 2, Why::Words),
-    (b"sessions 1\nschedule 1", 2, Why::Number),
+    (b"sessions 1\nschedule", 2, Why::Unknown),
+    (b"sessions 1\nschedule 0", 2, Why::Unknown),
+    (b"sessions 1\n0 after 0 0", 2, Why::Unknown),
     (b"sessions 1\n0 create \\ 8", 2, Why::Number),
     (b"sessions 1\n0 create /a 00644", 2, Why::Number),
     (b"sessions 1\n0 chmod /a 7\r\n", 2, Why::Number),
@@ -283,6 +285,23 @@ fn finds_the_lines_that_never_begin(rt: HostRuntime) -> Result<(), Fail> {
     for (lists, left) in ORDERS {
         assert!(rt; stuck(rt.alloc(), lists)? == left);
     }
+    Ok(())
+}
+
+#[test]
+fn groups_lines_by_sessions(rt: HostRuntime) -> Result<(), Fail> {
+    let alloc = rt.alloc();
+    let mut commands = Vec::new(alloc);
+    for (session, number) in [(1, 2), (1, 4), (0, 5)] {
+        commands.push(Command {
+            session,
+            number,
+            call: Call::Sync,
+        })?;
+    }
+    let grouped = by_session(alloc, 2, commands)?;
+    assert!(rt; grouped.lines.count(0) == 1 && grouped.lines.count(1) == 2);
+    assert!(rt; grouped.numbers.get(0, 0) == Some(5) && grouped.numbers.get(1, 1) == Some(4));
     Ok(())
 }
 

@@ -1,5 +1,5 @@
 -- A call and its answer, behind a legal history.
-use Rattle.std.proofs.Common.{◌≡◌, ◌⊎◌, ℕ, ◌+◌, ◌≤◌, Bool, true, false, not, List, [], ◌∷◌, ◌++◌, length, map as mapped, Option, Some, None, refl, sym, ◌∙◌, ap, subst, arith, length-append, append-nil}
+use Rattle.std.proofs.Common.{◌≡◌, ◌⊎◌, ℕ, ◌+◌, ◌<◌, ◌≤◌, Bool, true, false, not, List, [], ◌∷◌, ◌++◌, length, map as mapped, Option, Some, None, refl, sym, ◌∙◌, ap, subst, arith, length-append, append-nil}
 use Rattle.std.proofs.lemmas.List.Elements.{filter_map-append}
 use Rattle.std.specs.Prelude.{◌&&◌, nat_eq, nat_lt, filter_map}
 use Rattle.std.specs.List.{list_any}
@@ -7,16 +7,17 @@ use Rattle.std.specs.Ordering.{nat_cmp}
 use Rattle.std.specs.FinMap as map
 use Rattle.vx_base.specs.declared.call.Call.{Call}
 use Rattle.vx_base.specs.declared.reply.Reply.{Reply}
+use Rattle.vx_base.specs.declared.reply.Reply.TheVariants as say
 use Rattle.vx_base.specs.declared.event.Event.{Event}
 use Rattle.vx_base.specs.declared.event.Event.TheVariants as event
 use Rattle.vx_base.proofs.Maps.{at_key, taken_back}
 use Rattle.vx_model.specs.State.{State}
 use Rattle.vx_model.specs.Step.{step}
-use Rattle.vx_model.specs.Legal.{World, Waiting, after, after_all, Legal, Allowed, IfThere, is_fault, tells_failed_write, is_no_space, state_after, RetAllowed, with_released}
+use Rattle.vx_model.specs.Legal.{World, Waiting, Phase, in_use, after, after_all, Legal, Allowed, IfThere, is_fault, is_stop, tells_failed_write, is_no_space, phase_after, state_after, RetAllowed, with_released}
 use Rattle.vx_model.proofs.Runs.{after_all-append, Legal-push}
 use Rattle.vx_dev.specs.Tape as dev
 use Rattle.vx_dev.specs.Runs.{Onward}
-use Rattle.vx_run.specs.Cores.{IsRun, IsReply, IsEnded, IsBetween, is_unmounted, IsOfLines, asked_of, numbered, beginning, releases, released_by}
+use Rattle.vx_run.specs.Cores.{IsRun, IsReply, IsEnded, IsBetween, is_unmounted, is_unmounted_phase, IsOfLines, asked_of, numbered, beginning, releases, released_by}
 use Rattle.vx_run.specs.declared.engine.Opened.{Opened}
 
 abbrev Calls : Type 0
@@ -42,32 +43,33 @@ none_at m k none = ap (λ (x : Calls). map.get x k) none ∙ map.get-empty nat_c
 abbrev pub begun : ℕ → ℕ → Call → Reply → Event
 begun at line call reply = event.Do at 0 line call reply
 
-abbrev called : ℕ → Reply → Waiting
-called line reply = record { session = 0; line = line; reply = reply }
+abbrev called : ℕ → Call → Reply → Waiting
+called line call reply = record { session = 0; line = line; call = call; reply = reply }
 
 -- a call has been done, and not been answered
-pub record IsOpen (opened : Opened) (history : List Event) (state : State) (place line : ℕ) (reply : Reply) (count : ℕ) : Type 0 where
+pub record IsOpen (opened : Opened) (history : List Event) (state : State) (place line : ℕ) (call : Call) (reply : Reply) (count : ℕ) : Type 0 where
   pub legal : Legal (beginning opened) history
   pub state_is : (after_all (beginning opened) history).state ≡ state
-  pub waiting : (after_all (beginning opened) history).waiting ≡ map.insert map.empty place (called line reply)
+  pub waiting : (after_all (beginning opened) history).waiting ≡ map.insert map.empty place (called line call reply)
   pub next : (after_all (beginning opened) history).next ≡ length history
   pub at : (after_all (beginning opened) history).at ≤ count
-  pub mounted : (after_all (beginning opened) history).unmounted ≡ false
+  pub mounted : (after_all (beginning opened) history).phase ≡ in_use
 
 one_more : (es : List Event) (e : Event) → length (es ++ e ∷ []) ≡ length es + 1
 one_more es e = length-append es (e ∷ [])
 
-pub open_done : (opened : Opened) (h : List Event) (s new : State) (call : Call) (line at count : ℕ) (reply : Reply) → IsRun opened h s count → count ≤ at → IsReply s (length h) call reply new
-    → (is_no_space reply ≡ true → (b : ℕ) → s.layout.pending b ≡ None) → IsOpen opened (h ++ begun at line call reply ∷ []) new (length h) line reply at
-open_done opened h s new call line at count reply run low is released =
+pub open_done : (opened : Opened) (h : List Event) (s new : State) (call : Call) (line at count : ℕ) (reply : Reply) → IsRun opened h s count → 0 < line → count ≤ at → IsReply s (length h) call reply new
+    → (is_no_space reply ≡ true → (b : ℕ) → s.layout.pending b ≡ None) → IsOpen opened (h ++ begun at line call reply ∷ []) new (length h) line call reply at
+open_done opened h s new call line at count reply run numbered low is released =
     let w = after_all (beginning opened) h in
     let e = begun at line call reply in
     let first : after_all (beginning opened) (h ++ e ∷ []) ≡ after w e = after_all-append (beginning opened) h (e ∷ []) in
     let P : ℕ → State → Type 0 = λ n x. IfThere (step x n 0 call) (λ done. (reply ≡ done.reply) ⊎ (is_fault reply ≡ true)) in
     let allowed : Allowed w e = record {
       later = omega (arith, run.at, low);
-      mounted = run.mounted;
+      phase_is = run.mounted;
       comes = record {
+        numbered = numbered;
         idle = no_waiting w.waiting run.idle;
         reply_is = subst (λ (n : ℕ). P n w.state) (sym run.next) (subst (P (length h)) (sym run.state_is) is.reply_is);
         all_released = λ short b. ap (λ (x : State). x.layout.pending b) run.state_is ∙ released short b;
@@ -76,54 +78,59 @@ open_done opened h s new call line at count reply run low is released =
     record {
       legal = Legal-push (beginning opened) h e run.legal allowed;
       state_is = ap (λ (x : World). x.state) first ∙ ap (λ (n : ℕ). state_after w.state n 0 call reply) run.next ∙ ap (λ (x : State). state_after x (length h) 0 call reply) run.state_is ∙ sym is.state_is;
-      waiting = ap (λ (x : World). x.waiting) first ∙ ap (λ (n : ℕ). map.insert w.waiting n (called line reply)) run.next ∙ ap (λ (m : Calls). map.insert m (length h) (called line reply)) run.idle;
+      waiting = ap (λ (x : World). x.waiting) first ∙ ap (λ (n : ℕ). map.insert w.waiting n (called line call reply)) run.next ∙ ap (λ (m : Calls). map.insert m (length h) (called line call reply)) run.idle;
       next = ap (λ (x : World). x.next) first ∙ omega (arith, run.next, one_more h e);
       at = omega (arith, ap (λ (x : World). x.at) first);
-      mounted = ap (λ (x : World). x.unmounted) first ∙ run.mounted;
+      mounted = ap (λ (x : World). x.phase) first ∙ run.mounted;
     }
 
-open_on : (opened : Opened) (h : List Event) (s : State) (place line : ℕ) (reply : Reply) (count later : ℕ) → IsOpen opened h s place line reply count → count ≤ later → IsOpen opened h s place line reply later
-open_on opened h s place line reply count later run le =
+open_on : (opened : Opened) (h : List Event) (s : State) (place line : ℕ) (call : Call) (reply : Reply) (count later : ℕ) → IsOpen opened h s place line call reply count → count ≤ later → IsOpen opened h s place line call reply later
+open_on opened h s place line call reply count later run le =
     record { legal = run.legal; state_is = run.state_is; waiting = run.waiting; next = run.next; at = omega (arith, run.at, le); mounted = run.mounted }
 
-open_freed : (opened : Opened) (h : List Event) (s : State) (place line : ℕ) (reply : Reply) (at upto count later : ℕ) → IsOpen opened h s place line reply count → count ≤ at → at ≤ later
-    → IsOpen opened (h ++ event.Release at upto ∷ []) (with_released s upto) place line reply later
-open_freed opened h s place line reply at upto count later run low high =
+open_freed : (opened : Opened) (h : List Event) (s : State) (place line : ℕ) (call : Call) (reply : Reply) (at upto count later : ℕ) → IsOpen opened h s place line call reply count → count ≤ at → at ≤ later
+    → IsOpen opened (h ++ event.Release at upto ∷ []) (with_released s upto) place line call reply later
+open_freed opened h s place line call reply at upto count later run low high =
     let w = after_all (beginning opened) h in
     let e : Event = event.Release at upto in
     let first : after_all (beginning opened) (h ++ e ∷ []) ≡ after w e = after_all-append (beginning opened) h (e ∷ []) in
     record {
-      legal = Legal-push (beginning opened) h e run.legal (record { later = omega (arith, run.at, low); mounted = run.mounted; comes = tt });
+      legal = Legal-push (beginning opened) h e run.legal (record { later = omega (arith, run.at, low); phase_is = run.mounted; comes = tt });
       state_is = ap (λ (x : World). x.state) first ∙ ap (λ (x : State). with_released x upto) run.state_is;
       waiting = ap (λ (x : World). x.waiting) first ∙ run.waiting;
       next = ap (λ (x : World). x.next) first ∙ omega (arith, run.next, one_more h e);
       at = omega (arith, high, ap (λ (x : World). x.at) first);
-      mounted = ap (λ (x : World). x.unmounted) first ∙ run.mounted;
+      mounted = ap (λ (x : World). x.phase) first ∙ run.mounted;
     }
 
-pub open_released : (opened : Opened) (h : List Event) (s : State) (place line : ℕ) (reply : Reply) (between : Option ℕ) (upto count later : ℕ) → IsOpen opened h s place line reply count → count ≤ later
-    → IsBetween between count later → IsOpen opened (h ++ releases between upto) (released_by between upto s) place line reply later
-open_released opened h s place line reply None upto count later run le is =
-    subst (λ (es : List Event). IsOpen opened es s place line reply later) (sym (append-nil h)) (open_on opened h s place line reply count later run le)
-open_released opened h s place line reply (Some at) upto count later run le is = open_freed opened h s place line reply at upto count later run is.0 is.1
+pub open_released : (opened : Opened) (h : List Event) (s : State) (place line : ℕ) (call : Call) (reply : Reply) (between : Option ℕ) (upto count later : ℕ) → IsOpen opened h s place line call reply count → count ≤ later
+    → IsBetween between count later → IsOpen opened (h ++ releases between upto) (released_by between upto s) place line call reply later
+open_released opened h s place line call reply None upto count later run le is =
+    subst (λ (es : List Event). IsOpen opened es s place line call reply later) (sym (append-nil h)) (open_on opened h s place line call reply count later run le)
+open_released opened h s place line call reply (Some at) upto count later run le is = open_freed opened h s place line call reply at upto count later run is.0 is.1
+
+-- an answer to any call but a Stop leaves the mount in use
+phase_kept : (phase : Phase) (v : Waiting) (answer : Reply) → is_stop v.call ≡ false → phase_after phase (Some v) answer ≡ phase
+phase_kept phase v say.Fine goes_on = rw goes_on refl
+phase_kept phase v _ goes_on = refl
 
 -- the call is answered
-pub run_closed : (opened : Opened) (h : List Event) (s : State) (place line : ℕ) (reply : Reply) (count later count2 : ℕ) (answer : Reply) → IsOpen opened h s place line reply count → count ≤ later → later ≤ count2
+pub run_closed : (opened : Opened) (h : List Event) (s : State) (place line : ℕ) (call : Call) (reply : Reply) (count later count2 : ℕ) (answer : Reply) → IsOpen opened h s place line call reply count → is_stop call ≡ false → count ≤ later → later ≤ count2
     → (answer ≡ reply) ⊎ (tells_failed_write answer ≡ true) → IsRun opened (h ++ event.Ret later place answer ∷ []) s count2
-run_closed opened h s place line reply count later count2 answer run low high fits =
+run_closed opened h s place line call reply count later count2 answer run goes_on low high fits =
     let w = after_all (beginning opened) h in
     let e : Event = event.Ret later place answer in
     let first : after_all (beginning opened) (h ++ e ∷ []) ≡ after w e = after_all-append (beginning opened) h (e ∷ []) in
     let none : map.get (map.empty {X = Waiting} {R = nat_cmp}) place ≡ None = none_at map.empty place refl in
-    let waits : map.get w.waiting place ≡ Some (called line reply) = ap (λ (m : Calls). map.get m place) run.waiting ∙ at_key map.empty place (called line reply) in
+    let waits : map.get w.waiting place ≡ Some (called line call reply) = ap (λ (m : Calls). map.get m place) run.waiting ∙ at_key map.empty place (called line call reply) in
     record {
       legal = Legal-push (beginning opened) h e run.legal
-          (record { later = omega (arith, run.at, low); mounted = run.mounted; comes = subst (λ (o : Option Waiting). RetAllowed o answer) (sym waits) fits });
+          (record { later = omega (arith, run.at, low); phase_is = run.mounted; comes = subst (λ (o : Option Waiting). RetAllowed o answer) (sym waits) fits });
       state_is = ap (λ (x : World). x.state) first ∙ run.state_is;
-      idle = ap (λ (x : World). x.waiting) first ∙ ap (λ (m : Calls). map.remove m place) run.waiting ∙ taken_back map.empty place (called line reply) none;
+      idle = ap (λ (x : World). x.waiting) first ∙ ap (λ (m : Calls). map.remove m place) run.waiting ∙ taken_back map.empty place (called line call reply) none;
       next = ap (λ (x : World). x.next) first ∙ omega (arith, run.next, one_more h e);
       at = omega (arith, high, ap (λ (x : World). x.at) first);
-      mounted = ap (λ (x : World). x.unmounted) first ∙ run.mounted;
+      mounted = ap (λ (x : World). x.phase) first ∙ ap (λ (o : Option Waiting). phase_after w.phase o answer) waits ∙ phase_kept w.phase (called line call reply) answer goes_on ∙ run.mounted;
     }
 
 -- blocks that waited are free, between two calls
@@ -134,12 +141,12 @@ run_released opened h s at upto count count2 run low high =
     let e : Event = event.Release at upto in
     let first : after_all (beginning opened) (h ++ e ∷ []) ≡ after w e = after_all-append (beginning opened) h (e ∷ []) in
     record {
-      legal = Legal-push (beginning opened) h e run.legal (record { later = omega (arith, run.at, low); mounted = run.mounted; comes = tt });
+      legal = Legal-push (beginning opened) h e run.legal (record { later = omega (arith, run.at, low); phase_is = run.mounted; comes = tt });
       state_is = ap (λ (x : World). x.state) first ∙ ap (λ (x : State). with_released x upto) run.state_is;
       idle = ap (λ (x : World). x.waiting) first ∙ run.idle;
       next = ap (λ (x : World). x.next) first ∙ omega (arith, run.next, one_more h e);
       at = omega (arith, high, ap (λ (x : World). x.at) first);
-      mounted = ap (λ (x : World). x.unmounted) first ∙ run.mounted;
+      mounted = ap (λ (x : World). x.phase) first ∙ run.mounted;
     }
 
 pub run_on : (opened : Opened) (h : List Event) (s : State) (count count2 : ℕ) → IsRun opened h s count → count ≤ count2 → IsRun opened h s count2
@@ -207,12 +214,12 @@ module _ (opened : Opened) (h new : List Event) (s : State) (at count : ℕ) (ru
   pub ended_unmounted : IsEnded opened new
   ended_unmounted = record {
     legal = subst (λ (es : List Event). Legal (beginning opened) es) (sym are) (Legal-push (beginning opened) h (event.Unmounted at) run.legal
-        (record { later = omega (arith, run.at, low); mounted = run.mounted; comes = ap (λ (m : Calls). map.len m) run.idle ∙ map.len-empty nat_cmp Waiting }));
+        (record { later = omega (arith, run.at, low); phase_is = run.mounted; comes = ap (λ (m : Calls). map.len m) run.idle ∙ map.len-empty nat_cmp Waiting }));
     answered = ap (λ (x : World). x.waiting) last_world ∙ run.idle;
   }
 
   pub left_clean : is_unmounted opened new ≡ true
-  left_clean = ap (λ (x : World). x.unmounted) last_world
+  left_clean = ap (λ (x : World). is_unmounted_phase x.phase) last_world
 
   pub lines_unmounted : filter_map asked_of new ≡ filter_map asked_of h
   lines_unmounted = ap (filter_map asked_of) are ∙ filter_map-append asked_of h (event.Unmounted at ∷ []) ∙ append-nil (filter_map asked_of h)

@@ -1,5 +1,5 @@
 -- A call that was done in memory is noted, made durable, and answered.
-use Rattle.std.proofs.Common.{◌≡◌, ◌≢◌, ◌⊎◌, ℕ, ◌+◌, ◌<◌, ◌≤◌, true, List, [], ◌∷◌, ◌++◌, length, Option, Some, None, refl, sym, ◌∙◌, ap, subst, inl, inr, arith, length-append, append-nil}
+use Rattle.std.proofs.Common.{◌≡◌, ◌≢◌, ◌⊎◌, ℕ, ◌+◌, ◌<◌, ◌≤◌, true, false, List, [], ◌∷◌, ◌++◌, length, Option, Some, None, refl, sym, ◌∙◌, ap, subst, inl, inr, arith, length-append, append-nil}
 use Rattle.std.specs.Prelude.{All, IfSome, IsSome}
 use Rattle.vx_base.specs.declared.call.Call.{Call}
 use Rattle.vx_base.specs.declared.event.Event.{Event}
@@ -11,7 +11,7 @@ use Rattle.vx_base.specs.declared.mode.Logging.TheVariants as logging
 use Rattle.vx_model.specs.Allowed.{come_by, is_refusal, IsAllowed}
 use Rattle.vx_model.specs.AllowedLaws.{IsPlaced, AllowedLaws}
 use Rattle.vx_model.specs.EditLaws.{EditLaws}
-use Rattle.vx_model.specs.Legal.{tells_failed_write}
+use Rattle.vx_model.specs.Legal.{tells_failed_write, is_stop}
 use Rattle.vx_model.specs.Replays.{ReplaysAs}
 use Rattle.vx_model.specs.State.{State}
 use Rattle.vx_model.specs.Touching.{Touched, untouched}
@@ -57,7 +57,7 @@ pub record IsNoted (d2 : Device) (opened : Opened) (h : List Event) (at later pl
   pub live : Told d2 (IsLive opened (((h ++ event.Do at 0 line call reply ∷ []) ++ releases between place) ++ event.Ret later place answer ∷ []) after.disabled after.journal.log after.journal.homes (released_by between place new))
 
 module _ (laws : AllowedLaws) (edits : EditLaws) (waiting : WaitingLaws) (d d2 : Device) (core begun after : Core) (at later line : ℕ) (call : Call) (reply answer : Reply) (asked : IsAsked d core call reply)
-    (at_is : at ≡ d.count) (later_is : later ≡ d2.count) (onward : Onward d d2)
+    (numbered : 0 < line) (goes_on : is_stop call ≡ false) (at_is : at ≡ d.count) (later_is : later ≡ d2.count) (onward : Onward d d2)
     (begins : IfSome d.told (λ t. length t.ops ≡ d.count)) (ends : IfSome d2.told (λ t. length t.ops ≡ d2.count)) where
   abbrev h : List Event
   h = core.history.items
@@ -83,8 +83,8 @@ module _ (laws : AllowedLaws) (edits : EditLaws) (waiting : WaitingLaws) (d d2 :
   stop : IfSome d2.told (λ t. length t.ops ≡ later)
   stop = subst (λ (k : ℕ). IfSome d2.told (λ t. length t.ops ≡ k)) (sym later_is) ends
 
-  opened_call : IsOpen core.opened (h ++ event.Do at 0 line call reply ∷ []) new place line reply at
-  opened_call = open_done core.opened h s new call line at d.count reply asked.base.run (omega (arith, at_is)) asked.done.reply_is asked.all_released
+  opened_call : IsOpen core.opened (h ++ event.Do at 0 line call reply ∷ []) new place line call reply at
+  opened_call = open_done core.opened h s new call line at d.count reply asked.base.run numbered (omega (arith, at_is)) asked.done.reply_is asked.all_released
 
   module _ (journal : begun.journal ≡ core.journal) (disabled : begun.disabled ≡ core.disabled) (touched : begun.touched ≡ core.touched) (meta : begun.meta ≡ core.meta) where
     live_begun : Told d (IsLive core.opened h begun.disabled begun.journal.log begun.journal.homes s)
@@ -163,8 +163,8 @@ module _ (laws : AllowedLaws) (edits : EditLaws) (waiting : WaitingLaws) (d d2 :
         length-append h (event.Do at 0 line call reply ∷ []),
       ) in
       let size : length final.history.items ≡ length es = ap (λ (xs : List Event). length xs) items in
-      let run = run_closed core.opened h2 (released_by is.between place new) place line reply later later d2.count answer
-      (open_released core.opened (h ++ event.Do at 0 line call reply ∷ []) new place line reply is.between place at later opened_call order is.inside) (omega arith) (omega (arith, later_is)) fits in
+      let run = run_closed core.opened h2 (released_by is.between place new) place line call reply later later d2.count answer
+      (open_released core.opened (h ++ event.Do at 0 line call reply ∷ []) new place line call reply is.between place at later opened_call order is.inside) goes_on (omega arith) (omega (arith, later_is)) fits in
       let new_state = released_by is.between place new in
       record {
         run = subst (λ (o : Opened). IsRun o final.history.items new_state d2.count) (sym opened) (subst (λ (xs : List Event). IsRun core.opened xs new_state d2.count) (sym items) run);

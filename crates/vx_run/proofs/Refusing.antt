@@ -121,6 +121,10 @@ module _ (s : State) (place : ℕ) where
   same_step (call.Chmod path mode) reply short is = same_settled (chmod s path mode) reply (chmod_succeeds path mode) short is
   same_step (call.Stat path) reply short is = same_settled (stat s path) reply (stats_succeed path) short is
   same_step (call.List path) reply short is = same_settled (list s path) reply (list_succeeds path) short is
+  same_step call.Sync reply short is = refl
+  same_step call.Tick reply short is = refl
+  same_step (call.After other lines) reply short is = refl
+  same_step call.Stop reply short is = refl
   same_step _ reply short is = absurd is
 
   either_same : (after : State) (t : Bool) → after ≡ s → (if t then s else after) ≡ s

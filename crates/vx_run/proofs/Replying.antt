@@ -66,6 +66,10 @@ there s place (call.Rename old new) Q built all = all _
 there s place (call.Chmod path mode) Q built all = all _
 there s place (call.Stat path) Q built all = all _
 there s place (call.List path) Q built all = all _
+there s place call.Sync Q built all = all _
+there s place call.Tick Q built all = all _
+there s place (call.After other lines) Q built all = all _
+there s place call.Stop Q built all = all _
 there s place _ Q built all = absurd cc
 
 touched_none : (s : State) (t : Touched) → IsTouched s s t

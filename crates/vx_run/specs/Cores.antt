@@ -19,7 +19,7 @@ use Rattle.vx_model.specs.State.{State, fresh}
 use Rattle.vx_model.specs.Step.{step}
 use Rattle.vx_model.specs.Touching.{Touched, IsTouched, untouched}
 use Rattle.vx_model.specs.Waiting.{Waits}
-use Rattle.vx_model.specs.Legal.{World, opening, at_of, after_all, Legal, IfThere, is_fault, is_no_space, state_after, with_released}
+use Rattle.vx_model.specs.Legal.{World, Phase, in_use, unmounted, opening, at_of, after_all, Legal, IfThere, is_fault, is_no_space, state_after, with_released}
 use Rattle.vx_kernel.specs.Journals.{IsAtRest, IsMounted, IsKept}
 use Rattle.vx_kernel.specs.Sizes.{new_log_blocks}
 use Rattle.vx_txn.specs.Metas.{IsStateOf}
@@ -39,7 +39,7 @@ pub record IsRun (opened : Opened) (history : List Event) (state : State) (count
   pub idle : (after_all (beginning opened) history).waiting ≡ map.empty
   pub next : (after_all (beginning opened) history).next ≡ length history
   pub at : (after_all (beginning opened) history).at ≤ count
-  pub mounted : (after_all (beginning opened) history).unmounted ≡ false
+  pub mounted : (after_all (beginning opened) history).phase ≡ in_use
 
 -- a crash at any earlier moment from the end of the format on leaves what the history allows, and so does one now
 pub record IsLive (opened : Opened) (history : List Event) (disabled : Option ℕ) (log : LogView) (homes : List AfterImage) (s : State) (t : dev.Tape) : Type 0 where
@@ -177,6 +177,10 @@ pub record IsEnded (opened : Opened) (history : List Event) : Type 0 where
   pub legal : Legal (beginning opened) history
   pub answered : (after_all (beginning opened) history).waiting ≡ map.empty
 
+abbrev pub is_unmounted_phase : Phase → Bool
+is_unmounted_phase unmounted = true
+is_unmounted_phase _ = false
+
 -- whether the file system was left clean
 abbrev pub is_unmounted : Opened → List Event → Bool
-is_unmounted opened history = (after_all (beginning opened) history).unmounted
+is_unmounted opened history = is_unmounted_phase (after_all (beginning opened) history).phase

@@ -1,15 +1,17 @@
 -- How a run ends, and why.
-use Rattle.std.specs.Prelude.{◌≡◌, ◌<◌, ◌≤◌, ◌+◌, ℕ, Bool, true, false, List, [], Option, Result, Ok, Err, IfSome, is_some, not, if◌then◌else◌, All}
+use Rattle.std.specs.Prelude.{◌≡◌, ◌<◌, ◌≤◌, ◌+◌, ℕ, Bool, true, false, List, [], Option, Err, IfSome, is_some, not, if◌then◌else◌, All}
 use Rattle.std.specs.Io.KnownBytes.{Appends}
-use Rattle.vx_base.specs.declared.call.Call.{Call}
 use Rattle.vx_base.specs.declared.event.Event.{Event}
 use Rattle.vx_base.specs.Faults.{Rose}
+use Rattle.vx_base.specs.Lines.{lines_of}
 use Rattle.vx_dev.specs.Tape as dev
 use Rattle.vx_script.specs.declared.start.StartRefusal.{StartRefusal}
 use Rattle.vx_script.specs.declared.start.StartRefusal.TheVariants as start
-use Rattle.vx_script.specs.declared.script.ScriptRefusal.{ScriptRefusal}
-use Rattle.vx_script.specs.declared.script.ScriptRefusal.TheVariants as script
-use Rattle.vx_script.specs.Script.{script_of, IsScript}
+use Rattle.vx_grammar.specs.declared.script.Script.{Script}
+use Rattle.vx_grammar.specs.declared.why.Why.{Why}
+use Rattle.vx_grammar.specs.declared.why.ScriptRefusal.TheVariants as no
+use Rattle.vx_grammar.specs.Readings.{reading_of}
+use Rattle.vx_grammar.specs.Scripts.{IsScript, IsScriptIn, IsBadOrder}
 use Rattle.vx_script.specs.Start.{status_of, refused_text}
 use Rattle.vx_script.specs.Output.{output_of}
 use Rattle.vx_script.specs.Puts.{AppendsPrefix}
@@ -47,50 +49,50 @@ pub data End : Type 0 where
   refused : (why : StartRefusal) → End
   finished : (disabled : Bool) (history : List Event) → End
 
--- the script's bytes, where they are told, are read so
-abbrev pub IsRead : Option (List ℕ) → Result (List Call) ScriptRefusal → Type 0
-IsRead left read = IfSome left (λ bytes. script_of bytes ≡ read)
-
--- the words and the script are good, and the script has these calls
-pub record Asks (s : Setting) (calls : List Call) : Type 0 where
+-- The words are good, and the script is one that is read of the bytes, where these are told.
+pub record Asks (s : Setting) (script : Script) : Type 0 where
   pub words : are_words s.words ≡ true
-  pub script : IsRead s.script (Ok calls)
-  pub form : IsScript calls
+  pub read : IfSome s.script (λ bytes. IsScriptIn bytes script)
+  pub form : IsScript script
+
+abbrev pub HasBadLine : ℕ → List ℕ → Type 0
+HasBadLine line bytes = (why : Why) × (reading_of bytes ≡ Err (no.BadLine line why))
 
 -- why a run is not begun, by its words and its script
 abbrev pub IsUnasked : Setting → ℕ → StartRefusal → Type 0
 IsUnasked s faults start.BadWords = are_words s.words ≡ false
-IsUnasked s faults start.TooLong = (are_words s.words ≡ true) × IsRead s.script (Err script.TooLong)
-IsUnasked s faults (start.BadLine line) = (are_words s.words ≡ true) × IsRead s.script (Err (script.BadLine line))
+IsUnasked s faults start.TooLong = (are_words s.words ≡ true) × IfSome s.script (λ bytes. reading_of bytes ≡ Err no.TooLong)
+IsUnasked s faults (start.BadLine line) = (are_words s.words ≡ true) × IfSome s.script (HasBadLine line)
+IsUnasked s faults (start.BadOrder line) = (are_words s.words ≡ true) × IfSome s.script (λ bytes. IsBadOrder bytes line)
 IsUnasked s faults start.ScriptFault = (are_words s.words ≡ true) × Rose s.script_faults faults
 IsUnasked s faults start.NoMemory = are_words s.words ≡ true
 IsUnasked s faults _ = ⊥
 
 -- the device is too small
 pub record IsTooSmall (s : Setting) (have want : ℕ) : Type 0 where
-  pub calls : List Call
-  pub asks : Asks s calls
+  pub script : Script
+  pub asks : Asks s script
   pub have_is : have ≡ s.device.size
   pub want_is : want ≡ sectors_needed
   pub small : s.device.size < sectors_needed
 
 -- the format failed
 pub record IsUnformatted (s : Setting) (d : dev.State) : Type 0 where
-  pub calls : List Call
-  pub asks : Asks s calls
+  pub script : Script
+  pub asks : Asks s script
   pub size : sectors_needed ≤ s.device.size
   pub rose : Rose s.device.write_faults d.write_faults
   pub fewer : d.count < s.device.count + format_ops
 
--- A run that was begun: its history is legal from a new file system on, its calls are the script's lines in order, all of them,
--- and each is answered; it ends unmounted exactly where no write failed, and no call is answered a fault before the failed write,
+-- A run that was begun: its history is legal from a new file system on, its calls are the lines of the script's one session in order,
+-- all of them, and each is answered; it ends unmounted exactly where no write failed, and no call is answered a fault before the failed write,
 -- nor otherwise behind it. Each event came at a moment from the end of the format to the end of the run. Where the device tells its
 -- operations, each image that a crash may leave at any of these moments is one that the history allows; and unmounted, the one image
 -- is clean and reads as the history's final tree.
 pub record IsFinished (s : Setting) (d : dev.State) (disabled : Bool) (history : List Event) : Type 0 where
-  pub calls : List Call
-  pub asks : Asks s calls
-  pub lines : IsOfLines history calls
+  pub script : Script
+  pub asks : Asks s script
+  pub lines : IsOfLines history (lines_of script.lines 0)
   pub size : sectors_needed ≤ s.device.size
   pub ended : IsEnded (opened_on s.device) history
   pub unmounted : is_unmounted (opened_on s.device) history ≡ not disabled

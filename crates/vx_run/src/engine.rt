@@ -1,10 +1,10 @@
 //! A mount: it answers one call after another, and keeps the history.
-ghost use Rattle.std.specs.Prelude.{◌≡◌, ◌≢◌, ◌⊎◌, ◌<◌, ◌≤◌, ◌+◌, ◌*◌, ◌^◌, ◌++◌, ◌∷◌, [], ℕ, true, None, Some, OnOk, OnErr, IfOk, IfSome, IsSome, length, vec_len, vec_capacity, is_none, List, All};
+ghost use Rattle.std.specs.Prelude.{◌≡◌, ◌≢◌, ◌⊎◌, ◌<◌, ◌≤◌, ◌+◌, ◌*◌, ◌^◌, ◌++◌, ◌∷◌, [], ℕ, true, false, None, Some, OnOk, OnErr, IfOk, IfSome, IsSome, length, vec_len, vec_capacity, is_none, List, All};
 ghost use Rattle.vx_base.specs.Faults.{HasCause};
 ghost use Rattle.vx_base.specs.declared.event.Event.TheVariants as event;
 ghost use Rattle.vx_base.specs.declared.call.Call.{Call};
 ghost use Rattle.vx_model.specs.Step.{has_step};
-ghost use Rattle.vx_model.specs.Legal.{tells_failed_write, is_no_space};
+ghost use Rattle.vx_model.specs.Legal.{tells_failed_write, is_no_space, is_stop};
 ghost use Rattle.vx_model.specs.Allowed.{is_refusal};
 ghost use Rattle.vx_model.specs.State.{State};
 ghost use Rattle.vx_model.specs.Touching.{untouched};
@@ -98,6 +98,7 @@ impl Core {
     pub fn answer<D: BlockDev>(&mut self, alloc: Global, dev: &mut D, line: u32, call: Call)
         requires core { IsCore (D.state dev.old) self.old }
         requires built { has_step call ≡ true }
+        requires goes_on { is_stop call ≡ false }
         requires line { 0 < line }
         requires mode { HasMode call }
         requires room { vec_len self.old.history + 4 ≤ vec_capacity self.old.history }
@@ -226,6 +227,7 @@ impl Core {
         requires asked { IsAsked (D.state dev.old) self.old call reply }
         requires few { most self.old.touched ≤ 4 }
         requires copy { answer ≡ reply }
+        requires goes_on { is_stop call ≡ false }
         requires line { 0 < line }
         requires room { vec_len self.old.history + 3 ≤ vec_capacity self.old.history }
         requires short { vec_len self.old.history ≤ 2 ^ 32 }
@@ -327,6 +329,7 @@ impl Core {
     pub fn answer_all<D: BlockDev>(&mut self, alloc: Global, dev: &mut D, calls: Vec<Call>)
         requires core { IsCore (D.state dev.old) self.old }
         requires built { All (λ call. has_step call ≡ true) calls.items }
+        requires go_on { All (λ call. is_stop call ≡ false) calls.items }
         requires modes { All HasMode calls.items }
         requires begins { self.old.history.items ≡ [] }
         requires room { 4 * length calls.items + 1 ≤ vec_capacity self.old.history }

@@ -212,9 +212,20 @@ const REPLACED: &[u8] =
 const REPLACED_DONE: &[u8] =
     b"0 1 ok 3\n0 2 ok 4\n0 3 ok\n0 4 ok 5\n0 5 ok\n0 6 ok file 4 0644 1 0\n0 7 ok file 5 0600 1 0\n0 8 ok 2 a d\n0 9 ok 1 b\n0 10 no 6 BadName\ndone calls=10 moves=0 from=0 to=0\n";
 
+/// Lines that do nothing count as no line of the session, and a name may have any byte.
+const SPELLED: &[u8] =
+    b"# a comment\n\nsessions  1\n0 create /a\\x20b 644\n#\n  0 st\\x61t /a\\x20b \n0 list /\n0 rmdir \\x00";
+
+const SPELLED_DONE: &[u8] =
+    b"0 1 ok 3\n0 2 ok file 3 0644 1 0\n0 3 ok 1 a\\x20b\n0 4 no 6 BadName\ndone calls=4 moves=0 from=0 to=0\n";
+
 #[test]
 fn answers(rt: HostRuntime) -> Result<(), Fail> {
-    let rows = [(DIRECTORIES, DIRECTORIES_DONE), (REPLACED, REPLACED_DONE)];
+    let rows = [
+        (DIRECTORIES, DIRECTORIES_DONE),
+        (REPLACED, REPLACED_DONE),
+        (SPELLED, SPELLED_DONE),
+    ];
     for (script, out) in rows {
         let seen = run_script(&rt, rt.alloc(), script, SECTORS, &[])?;
         assert_eq!(rt; seen.status, 0);
@@ -320,6 +331,11 @@ const NO_LINES: &[u8] = b"sessions 1\n";
 
 const NOTHING_DONE: &[u8] = b"done calls=0 moves=0 from=0 to=0\n";
 
+/// A command that is not built yet.
+const A_SYNC: &[u8] = b"sessions 1\n0 create /a 644\n0 sync\n";
+
+const BAD_LINE: &[u8] = b"refused 3 BadLine 3\n";
+
 const TOO_SMALL: &[u8] = b"refused 2 DeviceTooSmall 9219 9220\n";
 
 const UNREAD: &[u8] = b"refused 7 ScriptFault\n";
@@ -337,6 +353,7 @@ fn ends(rt: HostRuntime) -> Result<(), Fail> {
     let alloc = rt.alloc();
     let rows = [
         (NO_LINES, SECTORS, NEVER, NEVER, 4096, 0, 72, NOTHING_DONE),
+        (A_SYNC, SECTORS - 1, NEVER, NEVER, 4096, 3, 0, BAD_LINE),
         (ONE_CREATE, SECTORS - 1, NEVER, NEVER, 4096, 2, 0, TOO_SMALL),
         (ONE_CREATE, SECTORS, NEVER, 2, 4096, 7, 0, UNREAD),
         (ONE_CREATE, SECTORS, 77, NEVER, 4096, 4, 77, DISABLED),

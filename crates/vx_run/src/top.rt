@@ -2,6 +2,8 @@
 ghost use Rattle.std.specs.Prelude.{◌≡◌, ℕ, true, false, map, IfOk, IfErr, if◌then◌else◌};
 ghost use Rattle.std.specs.String.{string_bytes};
 ghost use Rattle.vx_dev.specs.Tape.{State};
+ghost use Rattle.vx_base.specs.Lines.{lines_of};
+ghost use Rattle.vx_grammar.specs.Scripts.{IsScript};
 ghost use Rattle.vx_run.specs.Ends.{Asks, IsUnasked, HasEnded, IsRan};
 ghost use Rattle.vx_run.specs.Outcomes.{end_of, HasShortHistory};
 
@@ -17,7 +19,7 @@ use vx_base::{Call, Event, History, Sink, Source};
 use vx_dev::BlockDev;
 use vx_kernel::format;
 use vx_model::states::fresh_reads;
-use vx_script::{StartRefusal, parse, render, render_refusal, script_law};
+use vx_script::{Script, StartRefusal, parse, render, render_refusal};
 
 /// The sectors that a file system of one unit and a log of 512 blocks needs.
 const SECTORS: u64 = 9_220;
@@ -79,14 +81,10 @@ fn status(disabled: bool, written: bool) -> u8
     }
 }
 
-/// The calls that the words and the script ask for.
-fn asked<S: Source>(
-    alloc: Global,
-    words: &[String],
-    script: &mut S,
-) -> Result<Vec<Call>, StartRefusal>
-    ensures asks { (device : State) → IfOk result (λ calls. Asks
-        (record { words = map string_bytes words.now; script = S.left script.old; device = device; script_faults = S.fault_count script.old }) calls.items) }
+/// The script, where the words and its bytes are good.
+fn asked<S: Source>(alloc: Global, words: &[String], script: &mut S) -> Result<Script, StartRefusal>
+    ensures asks { (device : State) → IfOk result (λ read. Asks
+        (record { words = map string_bytes words.now; script = S.left script.old; device = device; script_faults = S.fault_count script.old }) read) }
     ensures refused { (device : State) → IfErr result (IsUnasked
         (record { words = map string_bytes words.now; script = S.left script.old; device = device; script_faults = S.fault_count script.old }) (S.fault_count script.new)) }
 {
@@ -98,10 +96,21 @@ fn asked<S: Source>(
         Err(ReadRefusal::Fault) => return Err(StartRefusal::ScriptFault),
         Err(ReadRefusal::NoMemory) => return Err(StartRefusal::NoMemory),
     };
-    script_law(&bytes);
     match parse(alloc, &bytes) {
-        Ok(calls) => Ok(calls),
+        Ok(read) => Ok(read),
         Err(why) => Err(StartRefusal::from(why)),
+    }
+}
+
+/// The lines of the one session that a script has by now.
+fn only_session(alloc: Global, script: Script) -> Vec<Call>
+    requires { IsScript script }
+    ensures { result.items ≡ lines_of script.lines 0 }
+{
+    let mut lines = script.lines;
+    match lines.pop() {
+        Some(calls) => calls,
+        None => Vec::new(alloc),
     }
 }
 
@@ -117,8 +126,8 @@ fn worked<D: BlockDev, S: Source>(
         (D.state dev.new) (S.fault_count script.new) (end_of result) }
     ensures short { HasShortHistory result }
 {
-    let calls = match asked(alloc, words, script) {
-        Ok(calls) => calls,
+    let read = match asked(alloc, words, script) {
+        Ok(read) => read,
         Err(why) => return Outcome::Refused(why),
     };
     let have = dev.sectors();
@@ -132,6 +141,7 @@ fn worked<D: BlockDev, S: Source>(
         operations: dev.ops(),
         sectors: have,
     };
+    let calls = only_session(alloc, read);
     let mut core = match Core::fresh(alloc, calls.len(), opened) {
         Ok(core) => core,
         Err(_) => return Outcome::Refused(StartRefusal::NoMemory),

@@ -1,6 +1,2 @@
-mod CallLaws
-mod Joins
-mod ScriptLaws
-mod Splits
 pub mod Pieces
 mod OutputLaws

@@ -1,5 +1,3 @@
-pub mod Lines
-pub mod Script
 pub mod Puts
 pub mod Words
 pub mod Text

@@ -1,7 +1,7 @@
 -- What is printed where a run is refused before its first turn.
 use Rattle.std.specs.Prelude.{ℕ, List, [], ◌∷◌, ◌++◌, map, decimal, codes}
-use Rattle.vx_script.specs.declared.script.ScriptRefusal.{ScriptRefusal}
-use Rattle.vx_script.specs.declared.script.ScriptRefusal.TheVariants as script
+use Rattle.vx_grammar.specs.declared.why.ScriptRefusal.{ScriptRefusal}
+use Rattle.vx_grammar.specs.declared.why.ScriptRefusal.TheVariants as script
 use Rattle.vx_script.specs.declared.start.StartRefusal.{StartRefusal}
 use Rattle.vx_script.specs.declared.start.StartRefusal.TheVariants as start
 use Rattle.vx_script.specs.Words.{spaced, spaced_list}
@@ -12,6 +12,7 @@ status_of start.BadWords = 1
 status_of (start.DeviceTooSmall have want) = 2
 status_of start.TooLong = 3
 status_of (start.BadLine line) = 3
+status_of (start.BadOrder line) = 3
 status_of start.WriteFault = 4
 status_of start.ScriptFault = 7
 status_of start.NoMemory = 6
@@ -21,6 +22,7 @@ name_of_start start.BadWords = codes "BadWords"
 name_of_start (start.DeviceTooSmall have want) = codes "DeviceTooSmall"
 name_of_start start.TooLong = codes "TooLong"
 name_of_start (start.BadLine line) = codes "BadLine"
+name_of_start (start.BadOrder line) = codes "BadOrder"
 name_of_start start.WriteFault = codes "WriteFault"
 name_of_start start.ScriptFault = codes "ScriptFault"
 name_of_start start.NoMemory = codes "NoMemory"
@@ -28,6 +30,7 @@ name_of_start start.NoMemory = codes "NoMemory"
 abbrev pub fields_of_start : StartRefusal → List ℕ
 fields_of_start (start.DeviceTooSmall have want) = have ∷ want ∷ []
 fields_of_start (start.BadLine line) = line ∷ []
+fields_of_start (start.BadOrder line) = line ∷ []
 fields_of_start _ = []
 
 abbrev pub refused_line : StartRefusal → List ℕ
@@ -40,8 +43,9 @@ abbrev pub refused_text : StartRefusal → List ℕ
 refused_text start.NoMemory = []
 refused_text why = refused_line why
 
--- a refused script refuses the run
+-- a refused script refuses the run; why its line is bad is not printed
 abbrev pub start_of : ScriptRefusal → StartRefusal
 start_of script.TooLong = start.TooLong
-start_of (script.BadLine line) = start.BadLine line
+start_of (script.BadLine line why) = start.BadLine line
+start_of (script.BadOrder line) = start.BadOrder line
 start_of script.NoMemory = start.NoMemory

@@ -6,10 +6,10 @@ ghost use Rattle.vx_script.specs.Puts.{AppendsPrefix, Puts};
 ghost use Rattle.vx_script.specs.Words.{spaced_list};
 ghost use Rattle.vx_script.specs.Start.{status_of, name_of_start, fields_of_start, refused_line, refused_text, start_of};
 
-use crate::script::ScriptRefusal;
 use crate::text_buffer::{TextBuffer, flush, put};
 use crate::words::{Word, put_spaced, put_words};
 use vx_base::{Sink, SinkFault};
+use vx_grammar::ScriptRefusal;
 
 /// Why a run is refused before its first turn.
 #[derive(Clone, Copy, Debug, PartialEq, Eq)]
@@ -20,8 +20,10 @@ pub enum StartRefusal {
     DeviceTooSmall { have: u64, want: u64 },
     /// The script has too many bytes.
     TooLong,
-    /// A line of the script, counted from 1.
+    /// A bad line of the script, counted from 1.
     BadLine { line: u32 },
+    /// The lowest line of the script that can never begin.
+    BadOrder { line: u32 },
     /// A write of the device failed.
     WriteFault,
     /// The script could not be read.
@@ -37,7 +39,9 @@ impl StartRefusal {
         match self {
             StartRefusal::BadWords => 1,
             StartRefusal::DeviceTooSmall { have: _, want: _ } => 2,
-            StartRefusal::TooLong | StartRefusal::BadLine { line: _ } => 3,
+            StartRefusal::TooLong
+            | StartRefusal::BadLine { line: _ }
+            | StartRefusal::BadOrder { line: _ } => 3,
             StartRefusal::WriteFault => 4,
             StartRefusal::ScriptFault => 7,
             StartRefusal::NoMemory => 6,
@@ -51,7 +55,8 @@ impl From<ScriptRefusal> for StartRefusal {
     fn from(why: ScriptRefusal) -> StartRefusal {
         match why {
             ScriptRefusal::TooLong => StartRefusal::TooLong,
-            ScriptRefusal::BadLine { line } => StartRefusal::BadLine { line },
+            ScriptRefusal::BadLine { line, why: _ } => StartRefusal::BadLine { line },
+            ScriptRefusal::BadOrder { line } => StartRefusal::BadOrder { line },
             ScriptRefusal::NoMemory => StartRefusal::NoMemory,
         }
     }
@@ -124,7 +129,9 @@ fn put_start_fields<K: Sink>(
             buffer,
             &[Word::Number(*have), Word::Number(*want)],
         ),
-        StartRefusal::BadLine { line } => put_words(out, buffer, &[Word::Number(*line as u64)]),
+        StartRefusal::BadLine { line } | StartRefusal::BadOrder { line } => {
+            put_words(out, buffer, &[Word::Number(*line as u64)])
+        }
         _ => Ok(()),
     }
 }
@@ -137,6 +144,7 @@ fn name_of_start_refusal(why: &StartRefusal) -> &'static [u8]
         StartRefusal::DeviceTooSmall { have: _, want: _ } => b"DeviceTooSmall",
         StartRefusal::TooLong => b"TooLong",
         StartRefusal::BadLine { line: _ } => b"BadLine",
+        StartRefusal::BadOrder { line: _ } => b"BadOrder",
         StartRefusal::WriteFault => b"WriteFault",
         StartRefusal::ScriptFault => b"ScriptFault",
         StartRefusal::NoMemory => b"NoMemory",

@@ -1,4 +1,4 @@
-use crate::{ScriptRefusal, StartRefusal, parse, render, render_refusal};
+use crate::{ScriptRefusal, StartRefusal, Why, render, render_refusal};
 use std::alloc::{AllocError, Global};
 use std::process::Abort;
 use std::test::Fail;
@@ -6,86 +6,10 @@ use vx_base::{
     Bytes, Call, Event, ExtAttrs, Ino, MemSink, Name, Names, NumList, Refusal, Reply, SinkFault,
 };
 
-fn path(alloc: Global, bytes: &[u8]) -> Result<Bytes, AllocError> {
-    Bytes::from_slice(alloc, bytes)
-}
-
-fn expected_calls(alloc: Global) -> Result<Vec<Call>, AllocError> {
-    let mut calls = Vec::new(alloc);
-    calls.push(Call::Create {
-        path: path(alloc, b"/a")?,
-        mode: 0o644,
-    })?;
-    calls.push(Call::Mkdir {
-        path: path(alloc, b"/d")?,
-        mode: 0o1755,
-    })?;
-    calls.push(Call::Chmod {
-        path: path(alloc, b"/a")?,
-        mode: 0o7,
-    })?;
-    calls.push(Call::Unlink {
-        path: path(alloc, b"a")?,
-    })?;
-    calls.push(Call::Rmdir {
-        path: path(alloc, b"/d/")?,
-    })?;
-    calls.push(Call::Stat {
-        path: path(alloc, b"~!")?,
-    })?;
-    calls.push(Call::List {
-        path: path(alloc, b"/")?,
-    })?;
-    calls.push(Call::Link {
-        old: path(alloc, b"/a")?,
-        new: path(alloc, b"/b")?,
-    })?;
-    calls.push(Call::Rename {
-        old: path(alloc, b"/b")?,
-        new: path(alloc, b"/a")?,
-    })?;
-    Ok(calls)
-}
-
-#[test]
-fn parses_calls(rt: HostRuntime) -> Result<(), Fail> {
-    let alloc = rt.alloc();
-    let text =
-        b"sessions 1\n0 create /a 644\n0 mkdir /d 1755\n0 chmod /a 7\n0 unlink a\n0 rmdir /d/\n0 stat ~!\n0 list /\n0 link /a /b\n0 rename /b /a\n";
-    let Ok(calls) = parse(alloc, text) else {
-        return Err(Fail::from("refused"));
-    };
-    assert!(rt; calls.as_slice() == expected_calls(alloc)?.as_slice());
-    Ok(())
-}
-
-fn expect_bad_line(rt: &(impl Abort + AllocGlobal), text: &[u8], line: u32) {
-    match parse(rt.alloc(), text) {
-        Ok(_) => panic!(rt; "not refused"),
-        Err(why) => assert!(rt; why == ScriptRefusal::BadLine { line }),
-    }
-}
-
-#[test]
-fn refuses_bad_lines(rt: HostRuntime) {
-    expect_bad_line(&rt, b"sessions 17", 1);
-    expect_bad_line(&rt, b"", 1);
-    expect_bad_line(&rt, b"sessions 1\n0 frob /a", 2);
-    expect_bad_line(&rt, b"sessions 1\n0 list /\n\n", 3);
-    expect_bad_line(&rt, b"sessions 1\n0 unlink", 2);
-    expect_bad_line(&rt, b"sessions 1\n0 stat /a\\x20", 2);
-    expect_bad_line(&rt, b"sessions 1\n0 rmdir /a ", 2);
-    expect_bad_line(&rt, b"sessions 1\n0 link /a", 2);
-    expect_bad_line(&rt, b"sessions 1\n0 rename /a  /b", 2);
-    expect_bad_line(&rt, b"sessions 1\n0 mkdir /a", 2);
-    expect_bad_line(&rt, b"sessions 1\n0 create /a 00644", 2);
-    expect_bad_line(&rt, b"sessions 1\n0 chmod /a 648", 2);
-}
-
-fn asked(alloc: Global, line: u32, reply: Reply) -> Result<Event, AllocError> {
+fn asked(alloc: Global, session: u8, line: u32, reply: Reply) -> Result<Event, AllocError> {
     Ok(Event::Do {
         at: 0,
-        session: 0,
+        session,
         line,
         call: Call::List {
             path: Bytes::from_slice(alloc, b"/")?,
@@ -112,11 +36,11 @@ fn history(alloc: Global) -> Result<Vec<Event>, AllocError> {
     let made = Reply::Made { ino: Ino::new(3) };
     let exist = Reply::Refused(Refusal::Exist);
     let mut events = Vec::new(alloc);
-    events.push(asked(alloc, 1, made.clone()?)?)?;
+    events.push(asked(alloc, 0, 1, made.clone()?)?)?;
     events.push(answered(0, made))?;
-    events.push(asked(alloc, 2, listing(alloc)?)?)?;
+    events.push(asked(alloc, 0, 2, listing(alloc)?)?)?;
     events.push(answered(2, listing(alloc)?))?;
-    events.push(asked(alloc, 3, exist.clone()?)?)?;
+    events.push(asked(alloc, 0, 3, exist.clone()?)?)?;
     events.push(answered(4, exist))?;
     events.push(Event::Unmounted { at: 0 })?;
     Ok(events)
@@ -130,6 +54,25 @@ fn renders_history(rt: HostRuntime) -> Result<(), Fail> {
     assert!(rt; events.len() < 8);
     assert!(rt; render(events.as_slice(), &mut sink).is_ok());
     let text = b"0 1 ok 3\n0 2 ok 1 a\n0 3 no 2 Exist\ndone calls=3 moves=0 from=0 to=0\n";
+    assert!(rt; sink.as_slice() == text.as_slice());
+    Ok(())
+}
+
+/// The sessions 1 and 0 have a call done each, and are answered in the other order; then session 1 is answered once more.
+#[test]
+fn renders_sessions_in_order(rt: HostRuntime) -> Result<(), Fail> {
+    let alloc = rt.alloc();
+    let mut events = Vec::new(alloc);
+    events.push(asked(alloc, 1, 1, Reply::Fine)?)?;
+    events.push(asked(alloc, 0, 1, Reply::Fine)?)?;
+    events.push(answered(1, Reply::Fine))?;
+    events.push(answered(0, Reply::Made { ino: Ino::new(3) }))?;
+    events.push(asked(alloc, 1, 2, Reply::Fine)?)?;
+    events.push(answered(4, Reply::Fine))?;
+    let mut sink = MemSink::new(alloc, 1000, NumList::new(alloc))?;
+    assert!(rt; events.len() < 8);
+    assert!(rt; render(events.as_slice(), &mut sink).is_ok());
+    let text = b"0 1 ok\n1 1 ok 3\n1 2 ok\ndisabled calls=3 moves=0 from=0 to=0\n";
     assert!(rt; sink.as_slice() == text.as_slice());
     Ok(())
 }
@@ -152,7 +95,7 @@ fn expect_answer(
 ) -> Result<(), AllocError> {
     let alloc = rt.alloc();
     let mut events = Vec::new(alloc);
-    events.push(asked(alloc, 12, Reply::Begun)?)?;
+    events.push(asked(alloc, 0, 12, Reply::Begun)?)?;
     events.push(answered(0, answer))?;
     events.push(Event::MoveSwitch {
         at: 0,
@@ -248,10 +191,16 @@ fn renders_refusals(rt: HostRuntime) -> Result<(), Fail> {
         },
         b"refused 2 DeviceTooSmall 9219 9220\n",
     )?;
+    let why = Why::Words;
     expect_refusal(
         &rt,
-        StartRefusal::BadLine { line: 2 },
+        StartRefusal::from(ScriptRefusal::BadLine { line: 2, why }),
         b"refused 3 BadLine 2\n",
+    )?;
+    expect_refusal(
+        &rt,
+        StartRefusal::from(ScriptRefusal::BadOrder { line: 7 }),
+        b"refused 3 BadOrder 7\n",
     )?;
     expect_refusal(&rt, StartRefusal::NoMemory, b"")?;
     Ok(())

@@ -5,13 +5,12 @@ use std::fs::File;
 use std::process::ExitCode;
 use vx_base::{StdSink, StdSource};
 use vx_filedev::FileDev;
-use vx_grammar::Why;
 use vx_host::{
     CommandLine, CopyingSource, ImageError, asks_for_usage, cause_of, command_line, complain,
     hold_standard_streams, line_of, open_image, open_or_make_image,
 };
 use vx_run::{OpenGate, Ran, run};
-use vx_script::ScriptRefusal;
+use vx_script::{ScriptRefusal, Why, parse};
 
 /// The sectors of an image of one unit.
 const FRESH_SECTORS: u64 = 9_220;
@@ -21,10 +20,6 @@ const BAD_SCRIPT: u8 = 3;
 const NO_MEMORY: u8 = 6;
 
 const CANNOT_OPEN: u8 = 9;
-
-/// Of lines that the whole grammar has, and that no run takes today (docs/SCRIPT.md).
-const NOT_READ_YET: &str =
-    "a script has one session, and neither comments, empty lines, further spaces nor escapes, so far";
 
 const USAGE: &str = "usage: vxrun fresh IMAGE -o log < SCRIPT
 Makes a file system in the file IMAGE, answers the lines of SCRIPT, and unmounts it. vxrun(1) has more.
@@ -66,22 +61,22 @@ fn main(rt: HostRuntime) -> ExitCode {
 
 /// Says on standard error which line of a refused script is bad, and why.
 fn point_at_bad_line(rt: &HostRuntime, script: &[u8]) {
-    let Err(ScriptRefusal::BadLine { line }) = vx_script::parse(rt.alloc(), script) else {
-        return;
+    let (line, why) = match parse(rt.alloc(), script) {
+        Err(ScriptRefusal::BadLine { line, why }) => (line, reason(why)),
+        Err(ScriptRefusal::BadOrder { line }) => (line, "no order of the lines comes to it"),
+        _ => return,
     };
     let Ok(text) = String::from_utf8_lossy(rt.alloc(), line_of(script, line)) else {
         return;
-    };
-    let why = match vx_grammar::parse(rt.alloc(), script) {
-        Err(vx_grammar::ScriptRefusal::BadLine { line: bad, why }) if bad == line => reason(why),
-        _ => NOT_READ_YET,
     };
     let _ = eprintln!(rt; "vxrun: line {line}: {why}: {text}");
 }
 
 fn reason(why: Why) -> &'static str {
     match why {
-        Why::Sessions => "the script does not begin with its sessions, or there is no such session",
+        Why::Sessions => {
+            "the script does not begin with `sessions 1`, or there is no such session yet"
+        }
         Why::Unknown => "there is no such command yet",
         Why::Words => "the command has other words",
         Why::Number => "a number is of another form or out of its range",

@@ -2,6 +2,7 @@ use Rattle.std.proofs.Common.{◌≡◌, ℕ, ◌+◌, List, [], length, map, sy
 use Rattle.std.specs.Prelude.{All, IfSome}
 use Rattle.std.specs.String.{string_bytes}
 use Rattle.std.proofs.lemmas.List.Elements.{All-nil}
+use Rattle.vx_base.specs.declared.call.Call.{Call}
 use Rattle.vx_base.specs.declared.event.Event.{Event}
 use Rattle.vx_layout.specs.LogForms.{AfterImage}
 use Rattle.vx_log.specs.Logs.{LogView, fresh_log}
@@ -11,13 +12,13 @@ use Rattle.vx_model.specs.Allowed.{come_by, IsAllowed}
 use Rattle.vx_model.specs.AllowedLaws.{IsPlaced}
 use Rattle.vx_model.specs.Legal.{after_all}
 use Rattle.vx_model.specs.State.{fresh}
-use Rattle.vx_run.specs.Cores.{beginning, CameBetween, IsEnded, is_unmounted, TellsFaults}
+use Rattle.vx_run.specs.Cores.{beginning, CameBetween, IsEnded, is_unmounted, IsOfLines, TellsFaults}
 use Rattle.vx_run.specs.Ends.{Setting, opened_on}
 use Rattle.vx_kernel.specs.Journals.{IsKept}
 use Rattle.vx_kernel.specs.Sizes.{new_log_blocks, new_log_sectors, superblock_of}
 use Rattle.vx_model.specs.Replays.{IsLeft}
 use Rattle.vx_run.proofs.Ending.{none_of, some_of, none_or_some, enabled_tells}
-use Rattle.vx_run.proofs.Scripts.{ended_unasked, all_built, all_modes}
+use Rattle.vx_run.proofs.Scripts.{ended_unasked, few_calls, all_built, all_go_on, all_modes}
 use Rattle.vx_run.proofs.Coming.{came_all, came_then}
 use Rattle.vx_run.proofs.Crashing.{live_formatted}
 use Rattle.vx_run.proofs.FaultOrder.{unfaulted}
@@ -32,7 +33,7 @@ returns-in-Err-clause-ended g c = ended_unasked
 pub returns-then-have-lt-SECTORS-clause-ended : goal.returns-then-have-lt-SECTORS-clause-ended
 returns-then-have-lt-SECTORS-clause-ended g c = (
   record {
-    calls = c.in-Ok.calls.items;
+    script = c.in-Ok.read;
     asks = c.in-Ok.ensures.asks (g.D.BlockDev.state c.args.dev.now);
     have_is = c.sectors-have.ensures;
     want_is = refl;
@@ -41,15 +42,18 @@ returns-then-have-lt-SECTORS-clause-ended g c = (
   refl,
 )
 
+pub only_session-calls-requires : goal.only_session-calls-requires
+only_session-calls-requires g c = let a = c.in-Ok.ensures.asks (g.D.BlockDev.state c.args.dev.now) in a.form
+
 pub fresh-requires : goal.fresh-requires
-fresh-requires g c = let a = c.in-Ok.ensures.asks (g.D.BlockDev.state c.args.dev.now) in omega (arith, a.form.few_calls, c.len.ensures, c.in-Ok.calls.ok.0)
+fresh-requires g c = let a = c.in-Ok.ensures.asks (g.D.BlockDev.state c.args.dev.now) in omega (arith, few_calls c.in-Ok.read a.form c.only_session-calls.result.items c.only_session-calls.ensures, c.len.ensures, c.only_session-calls.result.ok.0)
 
 pub returns-in-Err-fresh-clause-ended : goal.returns-in-Err-fresh-clause-ended
 returns-in-Err-fresh-clause-ended g c = let a = c.in-Ok.ensures.asks (g.D.BlockDev.state c.args.dev.now) in (a.words, refl)
 
 pub returns-in-Err-format-clause-ended : goal.returns-in-Err-format-clause-ended
 returns-in-Err-format-clause-ended g c = record {
-  calls = c.in-Ok.calls.items;
+  script = c.in-Ok.read;
   asks = c.in-Ok.ensures.asks (g.D.BlockDev.state c.args.dev.now);
   size = omega (arith, c.sectors-have.ensures, c.if-have-lt-SECTORS.false);
   rose = c.in-Err-format.ensures.cause.failed;
@@ -91,13 +95,16 @@ answer_all-requires-clause-core g c =
     }
 
 pub answer_all-requires-clause-modes : goal.answer_all-requires-clause-modes
-answer_all-requires-clause-modes g c = let a = c.in-Ok.ensures.asks (g.D.BlockDev.state c.args.dev.now) in all_modes c.in-Ok.calls.items a.form
+answer_all-requires-clause-modes g c = let a = c.in-Ok.ensures.asks (g.D.BlockDev.state c.args.dev.now) in all_modes c.in-Ok.read a.form c.only_session-calls.result.items c.only_session-calls.ensures
 
 pub answer_all-requires-clause-built : goal.answer_all-requires-clause-built
-answer_all-requires-clause-built g c = let a = c.in-Ok.ensures.asks (g.D.BlockDev.state c.args.dev.now) in all_built c.in-Ok.calls.items a.form
+answer_all-requires-clause-built g c = let a = c.in-Ok.ensures.asks (g.D.BlockDev.state c.args.dev.now) in all_built c.in-Ok.read a.form c.only_session-calls.result.items c.only_session-calls.ensures
 
 pub answer_all-requires-clause-few : goal.answer_all-requires-clause-few
-answer_all-requires-clause-few g c = let a = c.in-Ok.ensures.asks (g.D.BlockDev.state c.args.dev.now) in a.form.few_calls
+answer_all-requires-clause-few g c = let a = c.in-Ok.ensures.asks (g.D.BlockDev.state c.args.dev.now) in few_calls c.in-Ok.read a.form c.only_session-calls.result.items c.only_session-calls.ensures
+
+pub answer_all-requires-clause-go_on : goal.answer_all-requires-clause-go_on
+answer_all-requires-clause-go_on g c = let a = c.in-Ok.ensures.asks (g.D.BlockDev.state c.args.dev.now) in all_go_on c.in-Ok.read a.form c.only_session-calls.result.items c.only_session-calls.ensures
 
 pub returns-clause-ended : goal.returns-clause-ended
 returns-clause-ended g c =
@@ -109,9 +116,9 @@ returns-clause-ended g c =
     let tells : TellsFaults before (g.D.BlockDev.state c.unmount.new.dev).write_faults c.unmount.new.self.disabled =
     c.unmount.ensures.faults before (c.answer_all.ensures.faults before (enabled_tells before _ _ c.in-Ok-fresh.ensures.enabled c.in-Ok-format.ensures.cause.fine)) in
     record {
-      calls = c.in-Ok.calls.items;
+      script = c.in-Ok.read;
       asks = c.in-Ok.ensures.asks (g.D.BlockDev.state c.args.dev.now);
-      lines = c.unmount.ensures.lines c.in-Ok.calls.items c.answer_all.ensures.lines;
+      lines = subst (λ (calls : List Call). IsOfLines history calls) c.only_session-calls.ensures (c.unmount.ensures.lines c.only_session-calls.result.items c.answer_all.ensures.lines);
       size = omega (arith, c.sectors-have.ensures, c.if-have-lt-SECTORS.false);
       ended = subst (λ (o : Opened). IsEnded o history) opened c.unmount.ensures.ended;
       unmounted = ap (λ (o : Opened). is_unmounted o history) (sym opened) ∙ c.unmount.ensures.unmounted ∙ none_or_some c.unmount.new.self.disabled ∙ ap not (sym c.is_some.ensures);

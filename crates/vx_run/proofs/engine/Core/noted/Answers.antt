@@ -42,7 +42,7 @@ returns-clause-core g c =
     let d2 = g.D.BlockDev.state c.durable-answer.new.dev in
     let is : IsNoted d2 core.opened core.history.items c.ops-at.result c.ops-at-2.result (length core.history.items) c.args.line c.args.call c.args.reply answer asked.done.new begun after =
     noted_of c.allowed_laws.ensures c.edit_laws.ensures c.waiting_laws.ensures d d2 core begun after c.ops-at.result c.ops-at-2.result c.args.line c.args.call c.args.reply answer asked
-    c.ops-at.ensures.number c.ops-at-2.ensures.number c.durable-answer.ensures.onward (g.met.D.BlockDev.in_step c.args.dev.now) (g.met.D.BlockDev.in_step c.durable-answer.new.dev) refl refl refl refl
+    c.requires.line c.requires.goes_on c.ops-at.ensures.number c.ops-at-2.ensures.number c.durable-answer.ensures.onward (g.met.D.BlockDev.in_step c.args.dev.now) (g.met.D.BlockDev.in_step c.durable-answer.new.dev) refl refl refl refl
     (λ why. subst (λ (r : Reply). IsUntouched d d2 begun after r answer) c.requires.copy (c.durable-answer.ensures.untouched why))
     (λ touches none kept. subst (λ (n : ℕ). IsCarried asked.state asked.done.new n d d2 begun after answer) place
     (c.durable-answer.ensures.carried asked.state asked.done.new touches none asked.base.mounted asked.done.mounted asked.done.meta asked.done.touched
@@ -50,7 +50,7 @@ returns-clause-core g c =
     record {
       state = released_by is.between (length core.history.items) asked.done.new;
       base = base_noted c.allowed_laws.ensures c.edit_laws.ensures c.waiting_laws.ensures d d2 core begun after c.ops-at.result c.ops-at-2.result c.args.line c.args.call c.args.reply answer asked
-          c.ops-at.ensures.number c.ops-at-2.ensures.number c.durable-answer.ensures.onward (g.met.D.BlockDev.in_step c.args.dev.now) (g.met.D.BlockDev.in_step c.durable-answer.new.dev)
+          c.requires.line c.requires.goes_on c.ops-at.ensures.number c.ops-at-2.ensures.number c.durable-answer.ensures.onward (g.met.D.BlockDev.in_step c.args.dev.now) (g.met.D.BlockDev.in_step c.durable-answer.new.dev)
           _ is c.push_reserved.ensures.items
           (c.push_reserved-2.ensures.items ∙ ap (λ (n : ℕ). after.history.items ++ event.Ret c.ops-at-2.result n answer ∷ []) place)
           c.durable-answer.ensures.opened refl refl c.durable-answer.ensures.rest c.durable-answer.ensures.head
