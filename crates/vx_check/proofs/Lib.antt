@@ -1,0 +1,15 @@
+pub mod Going
+pub mod Marks
+pub mod MapChains
+pub mod Claiming
+pub mod Ordering
+pub mod NameLists
+pub mod Directories
+pub mod Counting
+pub mod Marking
+pub mod Linking
+pub mod Halves
+pub mod Units
+pub mod OneInode
+pub mod SlotLists
+pub mod Passing
