@@ -13,6 +13,7 @@ use Rattle.vx_base.specs.declared.reply.Reply.{Reply}
 use Rattle.vx_mount.specs.Sessions.{is_line, is_line_there, is_call_of, is_answer, begun, answered}
 use Rattle.vx_mount.specs.Pieces.{answers_stop, answers_stop_there, is_stopping}
 use Rattle.vx_mount.specs.Runs.{IsPlacedBelow}
+use Rattle.vx_mount.specs.GrowthLaws.{is_other}
 
 -- ---- what stands in a list stands there when it grows
 
@@ -127,11 +128,6 @@ answered-ret t history at place answer placed inside =
     ∙ ap (λ o. answered t history + cond {A = ℕ} (is_line_there t o) 1 0) (slice_get-front history (event.Ret at place answer ∷ []) place inside)
 
 -- any other event begins and answers none
-abbrev pub is_other : Event → Bool
-is_other (event.Do at session line c reply) = false
-is_other (event.Ret at place answer) = false
-is_other _ = true
-
 other_line : (s : ℕ) (e : Event) → is_other e ≡ true → is_line s e ≡ false
 other_line s (event.Do at session line c reply) h = absurd (cc)
 other_line s _ h = refl

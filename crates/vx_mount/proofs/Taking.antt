@@ -5,6 +5,7 @@ use Rattle.std.specs.List.{filter_map}
 use Rattle.std.proofs.lemmas.Bool.{cases_lt, eqb-true}
 use Rattle.std.proofs.lemmas.Bool.Decides.{nat_tests}
 use Rattle.std.proofs.lemmas.List.Elements.{filter_map-append}
+use Rattle.std.proofs.lemmas.List.Sums.{sum_by-cons}
 use Rattle.std.proofs.lemmas.Option.{slice_get_within, slice_get_past, slice_get_cases}
 use Rattle.vx_base.specs.declared.call.Call.{Call}
 use Rattle.vx_base.specs.declared.call.Call.TheVariants as call
@@ -60,6 +61,16 @@ one_length : (t : ℕ) (e : Event) → length (calls_begun t (e ∷ [])) ≡ con
 unfolding calls_begun
 one_length t (event.Do at s line c reply) = by_test (s == t && nat_lt 0 line) c
 one_length t _ = refl
+
+pub calls_counted : (t : ℕ) (h : List Event) → length (calls_begun t h) ≡ begun t h
+unfolding calls_begun begun
+calls_counted t [] = refl
+calls_counted t (e ∷ h) =
+    let split : length (calls_begun t (e ∷ h)) ≡ length (calls_begun t (e ∷ [])) + length (calls_begun t h) = ap length (calls_begun-append t (e ∷ []) h) ∙ length-append (calls_begun t (e ∷ [])) (calls_begun t h) in
+    let one : length (calls_begun t (e ∷ [])) ≡ cond {A = ℕ} (is_line t e) 1 0 = one_length t e in
+    let rest : length (calls_begun t h) ≡ begun t h = calls_counted t h in
+    let counts : begun t (e ∷ h) ≡ cond {A = ℕ} (is_line t e) 1 0 + begun t h = sum_by-cons (λ x. cond (is_line t x) 1 0) e h in
+    omega arith
 
 -- the first of what is left
 head_is : (front left : List Call) (c : Call) → slice_get (front ++ left) (length front) ≡ Some c → left ≡ c ∷ drop 1 left

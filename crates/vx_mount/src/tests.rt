@@ -14,6 +14,10 @@ impl Turns for Single {
 
     ghost work = { λ s. work_of s.unmounted };
 
+    ghost sound = { λ s. Unit {0} };
+
+    ghost kept = { λ o s. Unit {0} };
+
     fn sessions(&self) -> u8 {
         1
     }

@@ -27,6 +27,7 @@ impl Turn {
 /// A core whose sessions take turns, by the rules of docs/SESSIONS.md.
 pub trait Turns {
     ghost use Rattle.std.specs.Prelude.{◌≡◌, ◌≢◌, ◌<◌, ℕ, length};
+    ghost use Rattle.vx_model.specs.Legal.{World};
     ghost use Rattle.vx_mount.specs.Cores.{CoreView, CanGoOn, TakesTurn, TakesUnmountTurn, AllFinished};
     ghost use Rattle.vx_mount.specs.declared.turns.Turn.TheVariants.{Turned};
 
@@ -36,13 +37,23 @@ pub trait Turns {
     /// A bound on the turns that are still to come, for a proof that they end.
     ghost work: { Self → ℕ };
 
+    /// What a core needs for its next turn, and has again behind each.
+    ghost sound: { Self → Type 0 };
+
+    /// What each turn keeps, for every World in which the history may have begun.
+    ghost kept: { World → Self → Type 0 };
+
     /// The number of sessions.
     fn sessions(&self) -> u8
+        requires { sound self.now }
         ensures { result ≡ length (view self.now).lines };
 
     /// One turn of a session: it goes on with its line by at most one stage of the device, or does nothing and says why.
     fn turn(&mut self, actor: u8) -> Turn
-        requires { actor < length (view self.old).lines }
+        requires actor { actor < length (view self.old).lines }
+        requires sound { sound self.old }
+        ensures sound { sound self.new }
+        ensures kept { (o : World) → kept o self.old → kept o self.new }
         ensures turn { TakesTurn (view self.old) actor result (view self.new) }
         ensures less { result ≡ Turned → work self.new < work self.old }
         ensures idle { result ≢ Turned → self.new ≡ self.old };
@@ -50,11 +61,15 @@ pub trait Turns {
     /// One turn of the unmount, once all sessions are finished. Finished comes exactly where the history ends with Stopped or
     /// Unmounted or the mount is disabled, and changes nothing.
     fn unmount_turn(&mut self) -> Turn
-        requires { AllFinished (view self.old) }
+        requires finished { AllFinished (view self.old) }
+        requires sound { sound self.old }
+        ensures sound { sound self.new }
+        ensures kept { (o : World) → kept o self.old → kept o self.new }
         ensures turn { TakesUnmountTurn (view self.old) result (view self.new) }
         ensures less { result ≡ Turned → work self.new < work self.old };
 
     /// What every core keeps, by which some session can always go on until all are finished.
     fn facts(&self)
+        requires { sound self.now }
         ensures { CanGoOn (view self.now) };
 }

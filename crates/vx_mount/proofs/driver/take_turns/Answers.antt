@@ -11,5 +11,9 @@ schedule-preserved g c =
     let lt : i < length actors = omega arith in
     let old = g.T.Turns.view c.args.core.now in
     let now = g.T.Turns.view c.turn.new.self in
-    subst (λ a. TakesTurns old a now) (sym (take_more actors i 0 lt))
-    (turns_more old (g.T.Turns.view c.schedule.core) now (take i actors) (get_or actors i 0) c.turn.result c.schedule.invariant c.turn.ensures.turn)
+    record {
+      turns = subst (λ a. TakesTurns old a now) (sym (take_more actors i 0 lt))
+          (turns_more old (g.T.Turns.view c.schedule.core) now (take i actors) (get_or actors i 0) c.turn.result c.schedule.invariant.turns c.turn.ensures.turn);
+      sound = c.turn.ensures.sound;
+      kept = λ o k. c.turn.ensures.kept o (c.schedule.invariant.kept o k);
+    }

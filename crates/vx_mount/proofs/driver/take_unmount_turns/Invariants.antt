@@ -1,9 +1,14 @@
+use Rattle.vx_model.specs.Legal.{World}
 use Rattle.vx_mount.specs.Cores.{UnmountsOn}
 use Rattle.vx_mount.proofs.driver.take_unmount_turns.Given as goal
 
 -- the unmount's turns so far
 abbrev pub invariant-turns : goal.invariant-turns
-invariant-turns g l = UnmountsOn (g.T.Turns.view l.initial.core) (g.T.Turns.view l.core)
+invariant-turns g l = record {
+  on : UnmountsOn (g.T.Turns.view l.initial.core) (g.T.Turns.view l.core);
+  sound : g.T.Turns.sound l.core;
+  kept : (o : World) → g.T.Turns.kept o l.initial.core → g.T.Turns.kept o l.core;
+}
 
 abbrev pub decreases-turns : goal.decreases-turns
 decreases-turns g l = g.T.Turns.work l.core

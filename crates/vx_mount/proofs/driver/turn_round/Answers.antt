@@ -5,7 +5,7 @@ use Rattle.vx_mount.proofs.Going.{Round, round_begins, round_goes_on, round_work
 use Rattle.vx_mount.proofs.driver.turn_round.Goals as goal
 
 pub round-init : goal.round-init
-round-init g c = record { keeps = c.facts.ensures; round = round_begins g.T.Turns.view g.T.Turns.work c.args.core.now }
+round-init g c = record { keeps = c.facts.ensures; round = round_begins g.T.Turns.view g.T.Turns.work c.args.core.now; sound = c.requires; kept = λ o k. k }
 
 pub round-preserved : goal.round-preserved
 round-preserved g c = record {
@@ -13,6 +13,8 @@ round-preserved g c = record {
   round = subst (λ b. Round g.T.Turns.view g.T.Turns.work c.args.core.now c.turn-answer.new.self (c.round.actor + 1) (c.round.busy || not b)) (sym c.is_finished.ensures)
       (round_goes_on g.T.Turns.view g.T.Turns.work c.args.core.now c.round.core c.turn-answer.new.self c.round.actor c.round.busy c.turn-answer.result
       c.turn-answer.ensures.turn c.turn-answer.ensures.less c.turn-answer.ensures.idle c.round.invariant.round);
+  sound = c.turn-answer.ensures.sound;
+  kept = λ o k. c.turn-answer.ensures.kept o (c.round.invariant.kept o k);
 }
 
 pub returns-clause-round : goal.returns-clause-round

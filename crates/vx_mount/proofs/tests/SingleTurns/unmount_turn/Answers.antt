@@ -6,7 +6,7 @@ use Rattle.vx_mount.proofs.Single.{not_over, unmounts, is_unmounted}
 use Rattle.vx_mount.proofs.tests.SingleTurns.unmount_turn.Goals as goal
 
 pub returns-in-None-clause-turn : goal.returns-in-None-clause-turn
-returns-in-None-clause-turn c = absurd (not_over (subst (λ o. AllFinished (view_of o)) c.in-None.is c.requires))
+returns-in-None-clause-turn c = absurd (not_over (subst (λ o. AllFinished (view_of o)) c.in-None.is c.requires.finished))
 
 pub returns-then-unmounted-clause-turn : goal.returns-then-unmounted-clause-turn
 returns-then-unmounted-clause-turn c =

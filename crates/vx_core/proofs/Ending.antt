@@ -1,0 +1,262 @@
+-- What a turn leaves is what a core keeps, and the turn goes on with its session's line.
+use Rattle.std.proofs.Common.{◌≡◌, ◌⊎◌, ℕ, ◌+◌, ◌<◌, ◌≤◌, ◌&&◌, set, List, [], ◌∷◌, ◌++◌, length, length-append, Bool, true, false, Option, Some, None, refl, sym, ap, subst, ◌∙◌, append-nil, arith, inl, inr}
+use Rattle.std.specs.Prelude.{IsSome, IfSome, slice_get}
+use Rattle.std.proofs.lemmas.List.{length-set}
+use Rattle.std.proofs.lemmas.Option.{slice_get_within}
+use Rattle.vx_base.specs.declared.call.Call.{Call}
+use Rattle.vx_base.specs.declared.call.Call.TheVariants as call
+use Rattle.vx_base.specs.declared.event.Event.{Event}
+use Rattle.vx_base.specs.declared.event.Event.TheVariants as event
+use Rattle.vx_base.specs.declared.mode.Logging.{Logging}
+use Rattle.vx_base.specs.declared.refusal.Refusal.{Refusal}
+use Rattle.vx_base.specs.declared.reply.Reply.{Reply}
+use Rattle.vx_base.specs.declared.reply.Reply.TheVariants as say
+use Rattle.vx_base.specs.Lines.{lines_of, line_after}
+use Rattle.vx_model.specs.Allowed.{call_at, has_front, is_refusal}
+use Rattle.vx_model.specs.Legal.{World, in_use, after_all, is_stop, tells_failed_write}
+use Rattle.vx_mount.specs.GrowthLaws.{GrowthLaws}
+use Rattle.vx_mount.specs.Pieces.{IsTurn}
+use Rattle.vx_mount.specs.Sessions.{standing, ready}
+use Rattle.vx_mount.specs.Cores.{GoesOn}
+use Rattle.vx_core.specs.declared.session.Session.{Session}
+use Rattle.vx_core.specs.declared.session.UnderWay.{UnderWay}
+use Rattle.vx_core.specs.Facts.{IsScript, Facts, view_of, ends_run, is_fine, HasAnswered}
+use Rattle.vx_core.specs.Lines.{script_lines}
+use Rattle.vx_core.specs.Mounts.{MountView, IsStage, Released, releases, TellsFault, MayAnswer, noted}
+use Rattle.vx_core.specs.Tracks.{session_at, under_way_at, IsUnderWay, IsAnyUnderWay, Tracks, WaitsForFront, WaitForFronts, IsRunning, IsOnCourse}
+use Rattle.vx_core.proofs.ScriptLines.{script_other, script_ret}
+use Rattle.vx_core.proofs.Standings.{stands_under_way, ret_allowed, front_no_stop, same_needs}
+use Rattle.vx_core.proofs.Courses.{fronts_more, fronts_set}
+use Rattle.vx_core.proofs.Goings.{Going, going_begins, going_later, going_release, going_ret, going_turn}
+use Rattle.vx_core.proofs.Deciding.{runs_under_way}
+
+-- ---- small facts
+
+pub ends_is : (c : Call) (answer : Reply) → ends_run c answer ≡ (is_stop c && is_fine answer)
+ends_is call.Stop say.Fine = refl
+ends_is call.Stop _ = refl
+ends_is c say.Fine = and_true (is_stop c)
+  where
+    and_true : (b : Bool) → b ≡ (b && true)
+    and_true true = refl
+    and_true false = refl
+ends_is c _ = and_false (is_stop c)
+  where
+    and_false : (b : Bool) → false ≡ (b && false)
+    and_false true = refl
+    and_false false = refl
+
+-- a call that must be committed ends no run
+is_stop_no_front : (mode : Logging) (c : Call) → has_front mode c ≡ true → is_stop c ≡ false
+is_stop_no_front mode call.Stop e = absurd (front_no_stop mode e)
+is_stop_no_front mode _ e = refl
+
+pub front_goes_on : (mode : Logging) (c : Call) (answer : Reply) → has_front mode c ≡ true → ends_run c answer ≡ false
+front_goes_on mode c answer e = ends_is c answer ∙ ap (λ b. b && is_fine answer) (is_stop_no_front mode c e)
+
+-- where a write has failed, the answer tells it
+pub tells_refusal : (before now : Option ℕ) (faults : ℕ) (answer : Reply) → TellsFault before now faults answer → IsSome now → is_refusal answer ≡ true
+tells_refusal None None faults answer t some = absurd (let e : false ≡ true = some in cc)
+tells_refusal None (Some n) faults answer t some = ap is_refusal t.1
+tells_refusal (Some n) now faults answer t some = ap is_refusal t.1
+
+-- ---- what a turn leaves
+
+pub record TurnDone (built : Call → Type 0) (o : World) (kept : Type 0) (v : MountView) (lists : List (List Call)) (s : ℕ) (later : MountView) (left : List (List Call)) (sessions : List Session) (ended : Bool) : Type 0 where
+  pub facts : Facts built o kept later left sessions ended
+  pub goes : GoesOn (view_of v lists) s (view_of later left)
+
+module _ (laws : GrowthLaws) (built : Call → Type 0) (o : World) (was : Type 0) (v : MountView) (lists : List (List Call)) (sessions : List Session) (f : Facts built o was v lists sessions false) (s : ℕ) where
+  script_released : (h : List Event) (b : Bool) (at upto : ℕ) → script_lines lists (h ++ releases b at upto) ≡ script_lines lists h
+  script_released h true at upto = script_other laws lists h (event.Release at upto) refl
+  script_released h false at upto = ap (script_lines lists) (append-nil h)
+
+  going_released : (lines : List (List Call)) (first : List Event) (begin : ℕ) (h : List Event) (count : ℕ) (b : Bool) (upto : ℕ) → Going o lines s first begin sessions h count → Going o lines s first begin sessions (h ++ releases b count upto) count
+  going_released lines first begin h count true upto g = going_release laws o lines s first begin sessions h count g upto
+  going_released lines first begin h count false upto g = subst (λ k. Going o lines s first begin sessions k count) (sym (append-nil h)) g
+
+  -- the turn so far, once the mount has done a stage
+  pub going_staged : (later : MountView) → IsRunning (after_all o v.history) v.history → v.count ≤ later.count → Released v.history later.history later.count → Going o (script_lines lists v.history) s v.history v.count sessions later.history later.count
+  going_staged later runs le r =
+      subst (λ h. Going o (script_lines lists v.history) s v.history v.count sessions h later.count) (sym r.is)
+      (going_released (script_lines lists v.history) v.history v.count v.history later.count r.released r.upto
+      (going_later laws o (script_lines lists v.history) s v.history v.count sessions v.history v.count (going_begins laws o (script_lines lists v.history) s v.history v.count sessions f.tracks runs) later.count le))
+
+  pub script_staged : (later : MountView) → Released v.history later.history later.count → script_lines lists later.history ≡ script_lines lists v.history
+  script_staged later r = ap (script_lines lists) r.is ∙ script_released v.history r.released later.count r.upto
+
+  pub fronts_staged : (later : MountView) → later.logging ≡ v.logging → Released v.history later.history later.count → WaitForFronts later.logging later.history sessions
+  fronts_staged later mode r =
+      subst (λ m. WaitForFronts m later.history sessions) (sym mode)
+      (subst (λ h. WaitForFronts v.logging h sessions) (sym r.is) (fronts_more laws v.logging v.history (releases r.released later.count r.upto) sessions f.fronts))
+
+  module _ (kept : Type 0) (later : MountView) (left : List (List Call)) (now : List Session) (ended : Bool) (keeps : kept) (same : script_lines left later.history ≡ script_lines lists v.history) where
+    pub facts_later : Tracks (script_lines lists v.history) (after_all o later.history) later.history now → WaitForFronts later.logging later.history now → IsOnCourse ended (script_lines lists v.history) (after_all o later.history) later.history
+        → length now ≡ length left → length left ≡ length lists → later.leaving ≡ false → Facts built o kept later left now ended
+    facts_later t fronts course counts long free = record {
+      keeps = keeps;
+      tracks = subst (λ l. Tracks l (after_all o later.history) later.history now) (sym same) t;
+      fronts = fronts;
+      course = subst (λ l. IsOnCourse ended l (after_all o later.history) later.history) (sym same) course;
+      script = subst (IsScript built) (sym same) f.script;
+      counts = counts;
+      few = omega (arith, f.few);
+      over = λ e. absurd (cc);
+    }
+
+    pub goes_later : standing (script_lines lists v.history) v.history s ≡ ready → IsTurn (script_lines lists v.history) s v.history v.count later.history later.count → later.count ≤ v.count + 8 → GoesOn (view_of v lists) s (view_of later left)
+    goes_later stands turn few = record { was_ready = stands; turn = turn; stage = few; same_lines = same }
+
+  -- ---- a stage alone
+
+  module _ (stands : standing (script_lines lists v.history) v.history s ≡ ready) (runs : IsRunning (after_all o v.history) v.history) where
+    pub staged_turn : (kept : Type 0) (later : MountView) → kept → Released v.history later.history later.count → v.count < later.count → IsStage v later → later.leaving ≡ false
+        → TurnDone built o kept v lists s later lists sessions false
+    staged_turn kept later keeps r works stage free =
+        let same = script_staged later r in
+        let g = going_staged later runs stage.later r in
+        record {
+          facts = facts_later kept later lists sessions false keeps same g.tracks (fronts_staged later stage.logging r) (inl g.running) f.counts refl free;
+          goes = goes_later kept later lists sessions false keeps same stands
+              (going_turn laws o (script_lines lists v.history) s v.history v.count sessions later.history later.count g stands (λ _ e. absurd (omega arith))) stage.few;
+        }
+
+  -- ---- a call that goes on
+
+  module _ (n : ℕ) (u : UnderWay) (inside : s < length sessions) (is : session_at sessions s ≡ record { answered = n; under_way = Some u }) (stands : standing (script_lines lists v.history) v.history s ≡ ready) (runs : IsRunning (after_all o v.history) v.history) where
+    its_call : IsUnderWay (script_lines lists v.history) (after_all o v.history) v.history s n u
+    its_call = subst (λ (z : Session). IsAnyUnderWay (script_lines lists v.history) (after_all o v.history) v.history s z.answered z.under_way) is (f.tracks.under_way s)
+
+    its_front : has_front v.logging its_call.call ≡ true
+    its_front =
+        let w = subst (λ (z : Session). WaitsForFront v.logging v.history z.under_way) is (f.fronts s) in
+        same_needs v.logging (slice_get v.history u.place) its_call.at s (n + 1) its_call.call u.answer its_call.stands w.0
+
+    pub its_place : u.place < length v.history
+    its_place = slice_get_within v.history u.place (event.Do its_call.at s (n + 1) its_call.call u.answer) its_call.stands
+
+    -- it may be answered behind a stage: as it said, where that is durable, or with a failed write
+    pub may_answer : (later : MountView) (answer : Reply) → v.count ≤ later.count → Released v.history later.history later.count
+        → (answer ≡ u.answer) ⊎ (tells_failed_write answer ≡ true) → (is_refusal answer ≡ false → u.place < later.committed) → (IsSome later.disabled → is_refusal answer ≡ true) → MayAnswer o later u.place answer
+    may_answer later answer le r may earned refused =
+        let g = going_staged later runs le r in
+        record {
+          mounted = g.running.phase;
+          allowed = ret_allowed (script_lines lists v.history) (after_all o later.history) later.history sessions g.tracks s n u answer is may;
+          earned = λ fine. any_call (call_at later.history u.place) (earned fine);
+          refused = refused;
+        }
+      where
+        any_call : {P : Type 0} (c : Option Call) → P → IfSome c (λ x. has_front later.logging x ≡ true → P)
+        any_call None p = tt
+        any_call (Some x) p = λ _. p
+
+    pub answered_turn : (kept : Type 0) (staged later : MountView) (answer : Reply) → kept → Released v.history staged.history staged.count → IsStage v staged → staged.leaving ≡ false
+        → ((c : Call) → has_front v.logging c ≡ true → ends_run c answer ≡ false) → later ≡ noted staged (event.Ret staged.count u.place answer)
+        → TurnDone built o kept v lists s later lists (set sessions s (record { answered = n + 1; under_way = None })) false
+    answered_turn kept staged later answer keeps r stage free no_end later_is =
+        subst (λ x. TurnDone built o kept v lists s x lists (set sessions s (record { answered = n + 1; under_way = None })) false) (sym later_is)
+        (
+        let now = set sessions s (record { answered = n + 1; under_way = None }) in
+        let e = event.Ret staged.count u.place answer in
+        let x = noted staged e in
+        let g0 = going_staged staged runs stage.later r in
+        let g = going_ret laws o (script_lines lists v.history) s v.history v.count sessions staged.history staged.count g0 n u answer inside is
+        (λ y. (let same : Some y.call ≡ Some its_call.call = sym y.line ∙ its_call.line in let equal : its_call.call ≡ y.call = cc in
+        subst (λ c. ends_run c answer ≡ false) equal (no_end its_call.call its_front))) in
+        let same : script_lines lists x.history ≡ script_lines lists v.history = script_ret laws lists staged.history staged.count u.place answer ∙ script_staged staged r in
+        let fronts = fronts_set x.logging x.history sessions s (record { answered = n + 1; under_way = None }) inside tt
+        (fronts_more laws staged.logging staged.history (e ∷ []) sessions (fronts_staged staged stage.logging r)) in
+        record {
+          facts = facts_later kept x lists now false keeps same g.tracks fronts (inl g.running) (length-set sessions s (record { answered = n + 1; under_way = None }) ∙ f.counts) refl free;
+          goes = goes_later kept x lists now false keeps same stands
+              (going_turn laws o (script_lines lists v.history) s v.history v.count now x.history staged.count g stands (λ same_h _. absurd (longer staged.history e r same_h))) stage.few;
+        })
+      where
+        longer : (h : List Event) (e : Event) → Released v.history h staged.count → h ++ e ∷ [] ≡ v.history → ⊥
+        longer h e r same_h =
+            let a : length (h ++ e ∷ []) ≡ length v.history = ap length same_h in
+            let b : length h ≡ length (v.history ++ releases r.released staged.count r.upto) = ap length r.is in
+            omega (arith, length-append h (e ∷ []), length-append v.history (releases r.released staged.count r.upto))
+
+-- ---- a call that goes on is answered, as a core says it
+
+pub nothing_released : (h : List Event) (at : ℕ) → Released h h at
+nothing_released h at = record { released = false; upto = 0; is = sym (append-nil h) }
+
+pub same_stage : (v : MountView) → IsStage v v
+same_stage v = record { logging = refl; later = omega arith; few = omega arith; room = refl }
+
+-- the session's call, once its record is known
+pub there_is : (sessions : List Session) (s : ℕ) → IsSome (under_way_at sessions s) → (u : UnderWay) × (session_at sessions s ≡ record { answered = (session_at sessions s).answered; under_way = Some u })
+there_is sessions s some = for (under_way_at sessions s) refl some
+  where
+    for : (w : Option UnderWay) → under_way_at sessions s ≡ w → IsSome w → (u : UnderWay) × (session_at sessions s ≡ record { answered = (session_at sessions s).answered; under_way = Some u })
+    for None e some = absurd (let no_way : false ≡ true = some in cc)
+    for (Some u) e some = (u, ap (λ (w : Option UnderWay). record { answered = (session_at sessions s).answered; under_way = w }) e)
+
+pub line_limit : (lines : List (List Call)) (s n : ℕ) (c : Call) → length (lines_of lines s) < 65536 → line_after lines s n ≡ Some c → n < 65536
+unfolding line_after
+line_limit lines s n c few is = let inside : n < length (lines_of lines s) = slice_get_within (lines_of lines s) n c is in omega arith
+
+module _ (laws : GrowthLaws) (built : Call → Type 0) (o : World) (was : Type 0) (v : MountView) (lists : List (List Call)) (sessions : List Session) (f : Facts built o was v lists sessions false) (s n : ℕ) (u : UnderWay)
+    (is : session_at sessions s ≡ record { answered = n; under_way = Some u }) where
+  pub its_running : IsRunning (after_all o v.history) v.history
+  its_running = runs_under_way built o was v lists sessions f s u (ap (λ (z : Session). z.under_way) is)
+
+  pub its_limit : n < 65536
+  its_limit =
+      let x : IsUnderWay (script_lines lists v.history) (after_all o v.history) v.history s n u = subst (λ (z : Session). IsAnyUnderWay (script_lines lists v.history) (after_all o v.history) v.history s z.answered z.under_way) is (f.tracks.under_way s) in
+      line_limit (script_lines lists v.history) s n x.call (f.script.short s) x.line
+
+  stands_there : standing (script_lines lists v.history) v.history s ≡ ready
+  stands_there = stands_under_way (script_lines lists v.history) (after_all o v.history) v.history sessions f.tracks v.logging s n u its_running.runs is f.fronts
+
+  -- behind a stage the mount is in use still
+  pub staged_used : (staged : MountView) → Released v.history staged.history staged.count → IsStage v staged → (after_all o staged.history).phase ≡ in_use
+  staged_used staged r stage = (going_staged laws built o was v lists sessions f s staged its_running stage.later r).running.phase
+
+  module _ (inside : s < length sessions) where
+    pub place_inside : u.place < length v.history
+    place_inside = its_place laws built o was v lists sessions f s n u inside is stands_there its_running
+
+    -- in a disabled mount
+    pub may_refuse : (staged : MountView) (why : Refusal) → Released v.history staged.history staged.count → IsStage v staged → tells_failed_write (say.Refused why) ≡ true → MayAnswer o staged u.place (say.Refused why)
+    may_refuse staged why r stage failed =
+        may_answer laws built o was v lists sessions f s n u inside is stands_there its_running staged (say.Refused why) stage.later r (inr failed) (λ e. absurd (cc)) (λ _. refl)
+
+    -- once it is durable
+    pub may_say : (staged : MountView) → Released v.history staged.history staged.count → IsStage v staged → u.place < staged.committed → staged.disabled ≡ None → MayAnswer o staged u.place u.answer
+    may_say staged r stage durable enabled =
+        may_answer laws built o was v lists sessions f s n u inside is stands_there its_running staged u.answer stage.later r (inl refl) (λ _. durable)
+        (λ some. absurd (let e : IsSome {T = ℕ} None = subst (λ (d : Option ℕ). IsSome d) enabled some in let no_way : false ≡ true = e in cc))
+
+    pub refused_turn : (kept : Type 0) (staged later : MountView) (now : List Session) (why : Refusal) → kept → Released v.history staged.history staged.count → IsStage v staged → staged.leaving ≡ false
+        → HasAnswered staged later sessions now s n u (say.Refused why) → TurnDone built o kept v lists s later lists now false
+    refused_turn kept staged later now why keeps r stage free a =
+        subst (λ ss. TurnDone built o kept v lists s later lists ss false) (sym a.later_is)
+        (answered_turn laws built o was v lists sessions f s n u inside is stands_there its_running kept staged later (say.Refused why) keeps r stage free (λ c _. refl) a.view)
+
+    pub said_turn : (kept : Type 0) (staged later : MountView) (now : List Session) → kept → Released v.history staged.history staged.count → IsStage v staged → staged.leaving ≡ false
+        → HasAnswered staged later sessions now s n u u.answer → TurnDone built o kept v lists s later lists now false
+    said_turn kept staged later now keeps r stage free a =
+        subst (λ ss. TurnDone built o kept v lists s later lists ss false) (sym a.later_is)
+        (answered_turn laws built o was v lists sessions f s n u inside is stands_there its_running kept staged later u.answer keeps r stage free (λ c front. front_goes_on v.logging c u.answer front) a.view)
+
+    pub waiting_turn : (kept : Type 0) (later : MountView) → kept → Released v.history later.history later.count → v.count < later.count → IsStage v later → later.leaving ≡ false → TurnDone built o kept v lists s later lists sessions false
+    waiting_turn kept later keeps r works stage free = staged_turn laws built o was v lists sessions f s stands_there its_running kept later keeps r works stage free
+
+-- what room a history had, it has or has used
+pub room_noted : (v later : MountView) (e : Event) → later ≡ noted v e → 0 < v.spare → length later.history + later.spare ≡ length v.history + v.spare
+room_noted v later e is room = subst (λ x. length x.history + x.spare ≡ length v.history + v.spare) (sym is) (let long : length (v.history ++ e ∷ []) ≡ length v.history + length (e ∷ []) = length-append v.history (e ∷ []) in omega arith)
+
+-- behind a stage there is room for one event less at most
+pub room_left : (v later : MountView) → Released v.history later.history later.count → IsStage v later → 1 < v.spare → 0 < later.spare
+room_left v later r stage room =
+    let long : length later.history ≡ length v.history + length (releases r.released later.count r.upto) = ap length r.is ∙ length-append v.history (releases r.released later.count r.upto) in
+    let one : length (releases r.released later.count r.upto) ≤ 1 = at_most_one r.released later.count r.upto in
+    omega (arith, stage.room)
+  where
+    at_most_one : (b : Bool) (at upto : ℕ) → length (releases b at upto) ≤ 1
+    at_most_one true at upto = omega arith
+    at_most_one false at upto = omega arith

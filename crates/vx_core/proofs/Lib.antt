@@ -1,0 +1,12 @@
+pub mod ScriptLines
+pub mod WaitingCalls
+pub mod Pushing
+pub mod Standings
+pub mod Courses
+pub mod Turning
+pub mod Goings
+pub mod Deciding
+pub mod Ending
+pub mod Beginning
+pub mod Unmounting
+pub mod Working

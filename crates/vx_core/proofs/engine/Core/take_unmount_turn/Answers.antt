@@ -1,0 +1,92 @@
+use Rattle.std.proofs.Common.{◌<◌, false, is_some, refl, sym, ap, subst, ◌∙◌, append-nil}
+use Rattle.vx_core.specs.Facts.{Facts}
+use Rattle.vx_core.proofs.Unmounting.{open_runs, not_ended, ended_disabled, ended_last, is_over, facts_left, unmounts}
+use Rattle.vx_core.specs.Lines.{script_lines}
+use Rattle.vx_core.specs.Works.{work_of}
+use Rattle.vx_core.proofs.Working.{work_staged}
+use Rattle.vx_core.proofs.engine.Core.take_unmount_turn.Goals as goal
+
+pub returns-then-is_some-clause-turn : goal.returns-then-is_some-clause-turn
+returns-then-is_some-clause-turn g c =
+    let core = c.args.self.now in
+    let v = g.M.Calls.view core.mount in
+    (ended_disabled v core.lines (ap is_some (sym c.disabled.ensures) ∙ sym c.is_some.ensures ∙ c.if-is_some.true), refl)
+
+pub returns-then-has_ended-clause-turn : goal.returns-then-has_ended-clause-turn
+returns-then-has_ended-clause-turn g c =
+    let core = c.args.self.now in
+    let v = g.M.Calls.view core.mount in
+    (ended_last v core.lines (sym c.has_ended.ensures ∙ c.if-has_ended.true), refl)
+
+pub leave-requires-clause-leavable : goal.leave-requires-clause-leavable
+leave-requires-clause-leavable g c =
+    let core = c.args.self.now in
+    let v = g.M.Calls.view core.mount in
+    let enabled = ap is_some (sym c.disabled.ensures) ∙ sym c.is_some.ensures ∙ c.if-is_some.false in
+    let open_end = sym c.has_ended.ensures ∙ c.if-has_ended.false in
+    let o = c.requires.sound.0 in
+    let r = open_runs g.M.Calls.built o (g.M.Calls.kept o core.mount) v core.lines core.sessions.items core.stopped c.requires.sound.1 open_end in
+    let f = subst (Facts g.M.Calls.built o (g.M.Calls.kept o core.mount) v core.lines core.sessions.items) r.0 c.requires.sound.1 in
+    record { opening = o; keeps = f.keeps; over = is_over c.growth_laws.ensures g.M.Calls.built o (g.M.Calls.kept o core.mount) v core.lines core.sessions.items f r.1 c.requires.finished }
+
+pub returns-in-Ok-clause-turn : goal.returns-in-Ok-clause-turn
+returns-in-Ok-clause-turn g c =
+    let core = c.args.self.now in
+    let v = g.M.Calls.view core.mount in
+    let enabled = ap is_some (sym c.disabled.ensures) ∙ sym c.is_some.ensures ∙ c.if-is_some.false in
+    let open_end = sym c.has_ended.ensures ∙ c.if-has_ended.false in
+    let o = c.requires.sound.0 in
+    let r = open_runs g.M.Calls.built o (g.M.Calls.kept o core.mount) v core.lines core.sessions.items core.stopped c.requires.sound.1 open_end in
+    let f = subst (Facts g.M.Calls.built o (g.M.Calls.kept o core.mount) v core.lines core.sessions.items) r.0 c.requires.sound.1 in
+    (not_ended v core.lines enabled open_end, unmounts c.growth_laws.ensures g.M.Calls.built o (g.M.Calls.kept o core.mount) v core.lines core.sessions.items f r.1 c.requires.finished (g.M.Calls.view c.leave.new.self) c.leave.ensures.stage c.in-Ok.field-0 c.in-Ok.ensures.history.0 c.in-Ok.ensures.history.1.0 c.in-Ok.ensures.history.1.1)
+
+pub returns-in-Ok-clause-kept : goal.returns-in-Ok-clause-kept
+returns-in-Ok-clause-kept g c =
+    let core = c.args.self.now in
+    let v = g.M.Calls.view core.mount in
+    let enabled = ap is_some (sym c.disabled.ensures) ∙ sym c.is_some.ensures ∙ c.if-is_some.false in
+    let open_end = sym c.has_ended.ensures ∙ c.if-has_ended.false in
+    λ o facts.
+    let r = open_runs g.M.Calls.built o (g.M.Calls.kept o core.mount) v core.lines core.sessions.items core.stopped facts open_end in
+    let f = subst (Facts g.M.Calls.built o (g.M.Calls.kept o core.mount) v core.lines core.sessions.items) r.0 facts in
+    subst (λ b. Facts g.M.Calls.built o (g.M.Calls.kept o c.leave.new.self) (g.M.Calls.view c.leave.new.self) core.lines core.sessions.items b) (sym r.0)
+    (facts_left c.growth_laws.ensures g.M.Calls.built o (g.M.Calls.kept o core.mount) v core.lines core.sessions.items f r.1 c.requires.finished (g.M.Calls.view c.leave.new.self) c.leave.ensures.stage c.in-Ok.field-0 c.in-Ok.ensures.history.0 c.in-Ok.ensures.history.1.0 c.in-Ok.ensures.history.1.1 (g.M.Calls.kept o c.leave.new.self) (c.leave.ensures.kept o f.keeps (is_over c.growth_laws.ensures g.M.Calls.built o (g.M.Calls.kept o core.mount) v core.lines core.sessions.items f r.1 c.requires.finished)))
+
+pub returns-in-Err-clause-turn : goal.returns-in-Err-clause-turn
+returns-in-Err-clause-turn g c =
+    let core = c.args.self.now in
+    let v = g.M.Calls.view core.mount in
+    let enabled = ap is_some (sym c.disabled.ensures) ∙ sym c.is_some.ensures ∙ c.if-is_some.false in
+    let open_end = sym c.has_ended.ensures ∙ c.if-has_ended.false in
+    let o = c.requires.sound.0 in
+    let r = open_runs g.M.Calls.built o (g.M.Calls.kept o core.mount) v core.lines core.sessions.items core.stopped c.requires.sound.1 open_end in
+    let f = subst (Facts g.M.Calls.built o (g.M.Calls.kept o core.mount) v core.lines core.sessions.items) r.0 c.requires.sound.1 in
+    (not_ended v core.lines enabled open_end, unmounts c.growth_laws.ensures g.M.Calls.built o (g.M.Calls.kept o core.mount) v core.lines core.sessions.items f r.1 c.requires.finished (g.M.Calls.view c.leave.new.self) c.leave.ensures.stage false false 0 (c.in-Err.ensures.still ∙ sym (append-nil v.history)))
+
+pub returns-in-Err-clause-kept : goal.returns-in-Err-clause-kept
+returns-in-Err-clause-kept g c =
+    let core = c.args.self.now in
+    let v = g.M.Calls.view core.mount in
+    let enabled = ap is_some (sym c.disabled.ensures) ∙ sym c.is_some.ensures ∙ c.if-is_some.false in
+    let open_end = sym c.has_ended.ensures ∙ c.if-has_ended.false in
+    λ o facts.
+    let r = open_runs g.M.Calls.built o (g.M.Calls.kept o core.mount) v core.lines core.sessions.items core.stopped facts open_end in
+    let f = subst (Facts g.M.Calls.built o (g.M.Calls.kept o core.mount) v core.lines core.sessions.items) r.0 facts in
+    subst (λ b. Facts g.M.Calls.built o (g.M.Calls.kept o c.leave.new.self) (g.M.Calls.view c.leave.new.self) core.lines core.sessions.items b) (sym r.0)
+    (facts_left c.growth_laws.ensures g.M.Calls.built o (g.M.Calls.kept o core.mount) v core.lines core.sessions.items f r.1 c.requires.finished (g.M.Calls.view c.leave.new.self) c.leave.ensures.stage false false 0 (c.in-Err.ensures.still ∙ sym (append-nil v.history)) (g.M.Calls.kept o c.leave.new.self) (c.leave.ensures.kept o f.keeps (is_over c.growth_laws.ensures g.M.Calls.built o (g.M.Calls.kept o core.mount) v core.lines core.sessions.items f r.1 c.requires.finished)))
+
+pub returns-in-Ok-clause-less : goal.returns-in-Ok-clause-less
+returns-in-Ok-clause-less g c = λ _.
+    let core = c.args.self.now in
+    let lines = script_lines core.lines (g.M.Calls.view core.mount).history in
+    let turn = returns-in-Ok-clause-turn g c in
+    subst (λ l. work_of g.M.Calls.per_call (g.M.Calls.owed c.leave.new.self) l core.sessions.items < work_of g.M.Calls.per_call (g.M.Calls.owed core.mount) lines core.sessions.items) (sym turn.1.same_lines)
+    (work_staged g.M.Calls.per_call lines core.sessions.items (g.M.Calls.owed core.mount) (g.M.Calls.owed c.leave.new.self) c.leave.ensures.owed)
+
+pub returns-in-Err-clause-less : goal.returns-in-Err-clause-less
+returns-in-Err-clause-less g c = λ _.
+    let core = c.args.self.now in
+    let lines = script_lines core.lines (g.M.Calls.view core.mount).history in
+    let turn = returns-in-Err-clause-turn g c in
+    subst (λ l. work_of g.M.Calls.per_call (g.M.Calls.owed c.leave.new.self) l core.sessions.items < work_of g.M.Calls.per_call (g.M.Calls.owed core.mount) lines core.sessions.items) (sym turn.1.same_lines)
+    (work_staged g.M.Calls.per_call lines core.sessions.items (g.M.Calls.owed core.mount) (g.M.Calls.owed c.leave.new.self) c.leave.ensures.owed)

@@ -1,0 +1,154 @@
+-- What a core sees of its mount and device.
+use Rattle.std.specs.Prelude.{◌≡◌, ◌+◌, ◌-◌, ◌≤◌, ◌<◌, ℕ, Bool, true, false, List, [], ◌∷◌, ◌++◌, length, set, Option, None, Some, IfSome, IsSome, if◌then◌else◌}
+use Rattle.std.specs.FinMap as map
+use Rattle.vx_base.specs.declared.call.Call.{Call}
+use Rattle.vx_base.specs.declared.call.Call.TheVariants as call
+use Rattle.vx_base.specs.declared.event.Event.{Event}
+use Rattle.vx_base.specs.declared.event.Event.TheVariants as event
+use Rattle.vx_base.specs.declared.mode.Logging.{Logging}
+use Rattle.vx_base.specs.declared.refusal.Refusal.{Refusal}
+use Rattle.vx_base.specs.declared.refusal.Refusal.TheVariants as no
+use Rattle.vx_base.specs.declared.reply.Reply.{Reply}
+use Rattle.vx_base.specs.declared.reply.Reply.TheVariants as say
+use Rattle.vx_base.specs.Lines.{lines_of, line_after}
+use Rattle.vx_model.specs.Allowed.{call_at, has_front, is_refusal}
+use Rattle.vx_model.specs.Legal.{World, in_use, stopping, RetAllowed, after_all, is_idle}
+use Rattle.vx_core.specs.declared.calls.Performed.{Performed}
+use Rattle.vx_core.specs.declared.calls.Performed.TheVariants.{Again, Done}
+
+pub record MountView : Type 0 where
+  pub history : List Event
+  -- the operations of the device
+  pub count : ℕ
+  -- its failed writes
+  pub write_faults : ℕ
+  -- the device's failed writes at the first one in this mount
+  pub disabled : Option ℕ
+  pub logging : Logging
+  -- so many events of the history a crash leaves at least
+  pub committed : ℕ
+  -- the superblock of a clean file system is being written
+  pub leaving : Bool
+  -- the history has room for so many events more
+  pub spare : ℕ
+
+-- ---- what may be asked of it
+
+abbrev pub IsInUse : World → MountView → Type 0
+IsInUse o v = (after_all o v.history).phase ≡ in_use
+
+-- the mount keeps what it does for some World, from which on it is in use
+pub record IsUsed (kept : World → Type 0) (v : MountView) : Type 0 where
+  pub opening : World
+  pub keeps : kept opening
+  pub used : IsInUse opening v
+
+-- the session may begin its line of this number now
+pub record MayBegin (o : World) (v : MountView) (session line : ℕ) : Type 0 where
+  pub mounted : IsInUse o v
+  pub numbered : 0 < line
+  pub idle : is_idle (after_all o v.history) session ≡ true
+
+-- The call at this place may be answered so: with success only once its front is committed, and in a disabled mount not at all.
+pub record MayAnswer (o : World) (v : MountView) (place : ℕ) (answer : Reply) : Type 0 where
+  pub mounted : IsInUse o v
+  pub allowed : RetAllowed (map.get (after_all o v.history).waiting place) answer
+  pub earned : is_refusal answer ≡ false → IfSome (call_at v.history place) (λ c. has_front v.logging c ≡ true → place < v.committed)
+  pub refused : IsSome v.disabled → is_refusal answer ≡ true
+
+-- a Stop is answered, so that the run may end
+abbrev pub MayStop : World → MountView → Type 0
+MayStop o v = (after_all o v.history).phase ≡ stopping
+
+pub record IsStoppable (kept : World → Type 0) (v : MountView) : Type 0 where
+  pub opening : World
+  pub keeps : kept opening
+  pub may : MayStop opening v
+
+-- each call is answered, so the file system may be left
+pub record IsOver (o : World) (v : MountView) : Type 0 where
+  pub waiting : map.len (after_all o v.history).waiting ≡ 0
+  pub mounted : IsInUse o v
+
+pub record IsLeavable (kept : World → Type 0) (v : MountView) : Type 0 where
+  pub opening : World
+  pub keeps : kept opening
+  pub over : IsOver opening v
+
+-- ---- what it does
+
+-- at most one stage of the device; what room the history had, it has or has used
+pub record IsStage (old new : MountView) : Type 0 where
+  pub logging : new.logging ≡ old.logging
+  pub later : old.count ≤ new.count
+  pub few : new.count ≤ old.count + 8
+  pub room : length new.history + new.spare ≡ length old.history + old.spare
+
+-- the blocks that waited were released, or none were
+abbrev pub releases : Bool → (at upto : ℕ) → List Event
+releases released at upto = if released then event.Release at upto ∷ [] else []
+
+-- the history grew by a Release at most, at this moment
+pub record Released (old new : List Event) (at : ℕ) : Type 0 where
+  pub released : Bool
+  pub upto : ℕ
+  pub is : new ≡ old ++ releases released at upto
+
+-- a refusal that a fault of the device has caused, in this call or an earlier one
+abbrev pub is_of_device : Refusal → Bool
+is_of_device no.ReadFault = true
+is_of_device no.WriteFault = true
+is_of_device (no.Disabled faults) = true
+is_of_device _ = false
+
+abbrev pub IsFaultless : Reply → Type 0
+IsFaultless (say.Refused why) = is_of_device why ≡ false
+IsFaultless _ = Unit {0}
+
+-- How a turn tells the device's faults: where no write has failed in this mount, the answer tells none; where one fails in this very
+-- turn it is WriteFault; and where one had failed before it is Disabled, with the count of then.
+abbrev pub TellsFault : (before now : Option ℕ) → (write_faults : ℕ) → Reply → Type 0
+TellsFault None None write_faults answer = IsFaultless answer
+TellsFault None (Some faults) write_faults answer = (faults ≡ write_faults) × (answer ≡ say.Refused no.WriteFault)
+TellsFault (Some faults) now write_faults answer = (now ≡ Some faults) × (answer ≡ say.Refused (no.Disabled faults))
+
+-- the session's line after so many was done: the Do stands last in the history, and its line was moved there
+pub record HasDone (old new : MountView) (lines later : List (List Call)) (session answered place : ℕ) (answer : Reply) (commits : Bool) : Type 0 where
+  pub done : Call
+  pub line : line_after lines session answered ≡ Some done
+  pub place_is : place ≡ length old.history
+  pub history : new.history ≡ old.history ++ event.Do new.count session (answered + 1) done answer ∷ []
+  pub moved : later ≡ set lines session (set (lines_of lines session) answered call.Sync)
+  pub commits_is : commits ≡ has_front old.logging done
+  pub tells : TellsFault old.disabled new.disabled new.write_faults answer
+
+-- a stage came first, that makes room for the call
+pub record HasMadeRoom (old new : MountView) : Type 0 where
+  pub history : Released old.history new.history new.count
+  pub works : old.count < new.count
+  pub enabled : old.disabled ≡ None
+  pub still : new.disabled ≡ None
+
+abbrev pub HasPerformed : (old new : MountView) (lines later : List (List Call)) (session answered : ℕ) → Performed → Type 0
+HasPerformed old new lines later session answered Again = HasMadeRoom old new × (later ≡ lines)
+HasPerformed old new lines later session answered (Done place answer commits) = HasDone old new lines later session answered place answer commits
+
+-- what is still to do behind the first turns of a call: less where a stage came first
+abbrev pub OwesBehind : (per_call old new : ℕ) → Performed → Type 0
+OwesBehind per_call old new Again = new < old
+OwesBehind per_call old new (Done place answer commits) = new ≤ old + per_call
+
+-- an event was added, and nothing else is changed
+abbrev pub noted : MountView → Event → MountView
+noted v e = record v { history = v.history ++ e ∷ []; spare = v.spare - 1 }
+
+-- what one turn of leaving the file system adds to the history
+abbrev pub leaves : Bool → (released : Bool) → (at upto : ℕ) → List Event
+leaves true released at upto = event.Unmounted at ∷ []
+leaves false released at upto = releases released at upto
+
+-- ---- calls that can be done
+
+abbrev pub IsBuilt : (Call → Type 0) → Option Call → Type 0
+IsBuilt built None = ⊥
+IsBuilt built (Some c) = built c
