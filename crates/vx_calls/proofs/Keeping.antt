@@ -1,0 +1,135 @@
+-- What every step of a mount keeps.
+use Rattle.std.proofs.Common.{◌≡◌, ◌≢◌, ◌⊎◌, ℕ, Bool, true, false, cond, List, [], ◌∷◌, ◌++◌, length, Option, Some, None, Vec, Global, refl, sym, ap, subst, ◌∙◌, inl, inr}
+use Rattle.std.specs.Prelude.{◌≤◌, ◌==◌, IsSome}
+use Rattle.vx_base.specs.declared.event.Event.{Event}
+use Rattle.vx_base.specs.declared.event.Event.TheVariants as event
+use Rattle.vx_dev.specs.Tape.{State as Device}
+use Rattle.vx_dev.specs.Moments.{Told}
+use Rattle.vx_log.specs.Logs.{after_stage, is_body_out}
+use Rattle.vx_model.specs.EditLaws.{EditLaws}
+use Rattle.vx_model.specs.Legal.{World, in_use, after, after_all}
+use Rattle.vx_model.specs.State.{State}
+use Rattle.vx_model.specs.Touching.{untouched}
+use Rattle.vx_stage.specs.Growths.{IsBusy, IsInUse}
+use Rattle.vx_stage.specs.Kernels.{IsFit, HasRun, IsLive, JobFits, present}
+use Rattle.vx_layout.specs.LogForms.{AfterImage}
+use Rattle.vx_stage.specs.Staged.{staged, homes_from, homes_to}
+use Rattle.vx_stage.specs.declared.kernel.Job.{Job}
+use Rattle.vx_stage.specs.declared.kernel.Job.TheVariants.{Idle, Body, BodyOut, Head, HeadOut, Homes, HomesOut, Tail, TailOut, Leave, LeaveOut, Left, Broken}
+use Rattle.vx_stage.specs.declared.kernel.Kernel.{Kernel}
+use Rattle.vx_txn.specs.Metas.{IsStateOf}
+use Rattle.vx_txn.specs.declared.meta.Meta.{Meta}
+use Rattle.vx_calls.specs.Mounts.{IsAt, IsUsed}
+use Rattle.vx_calls.specs.declared.mount.Mount.{Mount}
+
+pub after_push : (w : World) (h : List Event) (e : Event) → after_all w (h ++ e ∷ []) ≡ after (after_all w h) e
+after_push w [] e = refl
+after_push w (x ∷ h) e = after_push (after w x) h e
+
+-- ---- jobs
+
+if_job : (P : Job → Type 0) (b : Bool) (x y : Job) → P x → P y → P (cond b x y)
+if_job P true x y p q = p
+if_job P false x y p q = q
+
+-- a stage that succeeds breaks nothing
+pub staged_whole : (k : Kernel) (j : Job) → k.job ≡ j → j ≢ Broken → (staged k j).job ≢ Broken
+staged_whole k Body is whole = if_job (λ x. x ≢ Broken) (is_body_out (after_stage k.log.closing)) BodyOut Body (λ e. cc) (λ e. cc)
+staged_whole k BodyOut is whole = λ e. cc
+staged_whole k Head is whole = λ e. cc
+staged_whole k HeadOut is whole = λ e. cc
+staged_whole k (Homes put) is whole = if_job (λ x. x ≢ Broken) _ HomesOut (Homes _) (λ e. cc) (λ e. cc)
+staged_whole k HomesOut is whole = λ e. cc
+staged_whole k Tail is whole = λ e. cc
+staged_whole k TailOut is whole = λ e. cc
+staged_whole k Leave is whole = λ e. cc
+staged_whole k Idle is whole = λ e. whole (sym is ∙ e)
+staged_whole k LeaveOut is whole = λ e. whole (sym is ∙ e)
+staged_whole k Left is whole = λ e. whole (sym is ∙ e)
+staged_whole k Broken is whole = λ e. whole refl
+
+-- ... and leaves nothing where the mount is not being left
+pub staged_free : (k : Kernel) (j : Job) → k.job ≡ j → (IsBusy j → ⊥) → IsBusy (staged k j).job → ⊥
+staged_free k Body is free = if_job (λ x. IsBusy x → ⊥) (is_body_out (after_stage k.log.closing)) BodyOut Body (λ e. e) (λ e. e)
+staged_free k BodyOut is free = λ e. e
+staged_free k Head is free = λ e. e
+staged_free k HeadOut is free = λ e. e
+staged_free k (Homes put) is free = if_job (λ x. IsBusy x → ⊥) _ HomesOut (Homes _) (λ e. e) (λ e. e)
+staged_free k HomesOut is free = λ e. e
+staged_free k Tail is free = λ e. e
+staged_free k TailOut is free = λ e. e
+staged_free k Leave is free = λ e. free tt
+staged_free k Idle is free = λ e. subst IsBusy is e
+staged_free k LeaveOut is free = λ e. free tt
+staged_free k Left is free = λ e. subst IsBusy is e
+staged_free k Broken is free = λ e. subst IsBusy is e
+
+-- ---- the mount
+
+module _ (o : World) (a b : Device) (m : Mount) (at : IsAt o a m) where
+  -- another kernel with the same history
+  pub with_kernel : (k : Kernel) (disabled : Option ℕ) → k.history ≡ m.kernel.history → HasRun o b k → Told b (IsLive o k) → IsFit b k → (disabled ≡ None → k.job ≢ Broken) → (IsSome disabled → k.job ≡ Broken)
+      → IsAt o b (record m { kernel = k; disabled = disabled })
+  with_kernel k disabled same run live fit enabled broken = record {
+    run = run;
+    live = live;
+    fit = fit;
+    meta = subst (λ (es : List Event). IsStateOf m.meta (after_all o es).state) (sym (ap (λ (v : _). v.items) same)) at.meta;
+    touched = at.touched;
+    transaction = at.transaction;
+    enabled = enabled;
+    broken = broken;
+  }
+
+  -- ---- a stage
+
+  pub staged_at : m.disabled ≡ None → (k : Kernel) → k ≡ staged m.kernel m.kernel.job → k.history ≡ m.kernel.history → HasRun o b k → Told b (IsLive o k) → IsFit b k → IsAt o b (record m { kernel = k })
+  staged_at enabled k done same run live fit = with_kernel k m.disabled same run live fit
+      (λ none. subst (λ (x : Kernel). x.job ≢ Broken) (sym done) (staged_whole m.kernel m.kernel.job refl (at.enabled enabled))) (λ some. absurd (none_some enabled some))
+    where
+      none_some : {A : Type 0} {x : Option A} → x ≡ None → IsSome x → ⊥
+      none_some none some = cc
+
+  pub failed_at : (k : Kernel) (faults : ℕ) → k.job ≡ Broken → k.history ≡ m.kernel.history → HasRun o b k → Told b (IsLive o k) → IsFit b k → IsAt o b (record m { kernel = k; disabled = Some faults })
+  failed_at k faults job same run live fit = with_kernel k (Some faults) same run live fit (λ none. absurd cc) (λ some. job)
+
+  -- another job begins
+  pub wanted_at : (k : Kernel) → m.kernel.job ≡ Idle → k.job ≢ Broken → k.history ≡ m.kernel.history → HasRun o b k → Told b (IsLive o k) → IsFit b k → IsAt o b (record m { kernel = k })
+  wanted_at k idle whole same run live fit = with_kernel k m.disabled same run live fit (λ none. whole) (λ some. absurd (let broken = at.broken some in let wrong : ◌≡◌ {A = Job} Idle Broken = sym idle ∙ broken in cc))
+
+-- ---- an event more
+
+module _ (o : World) (d e : Device) (m : Mount) (at : IsAt o d m) (k : Kernel) (x : Event) (items : k.history.items ≡ m.kernel.history.items ++ x ∷ []) (run : HasRun o e k) (live : Told e (IsLive o k)) (fit : IsFit e k) where
+  pub present_is : present o k ≡ (after (after_all o m.kernel.history.items) x).state
+  present_is = ap (λ (es : List Event). (after_all o es).state) items ∙ ap (λ (w : World). w.state) (after_push o m.kernel.history.items x)
+
+  pub pushed_at : (meta : Meta) → (m.disabled ≡ None → k.job ≢ Broken) → (IsSome m.disabled → k.job ≡ Broken) → IsStateOf meta (after (after_all o m.kernel.history.items) x).state → IsAt o e (record m { kernel = k; meta = meta })
+  pushed_at meta enabled broken is = record {
+    run = run;
+    live = live;
+    fit = fit;
+    meta = subst (IsStateOf meta) (sym present_is) is;
+    touched = at.touched;
+    transaction = at.transaction;
+    enabled = enabled;
+    broken = broken;
+  }
+
+  pub same_job : k.job ≡ m.kernel.job → (meta : Meta) → IsStateOf meta (after (after_all o m.kernel.history.items) x).state → IsAt o e (record m { kernel = k; meta = meta })
+  same_job job meta is = pushed_at meta (λ none broken. at.enabled none (sym job ∙ broken)) (λ some. job ∙ at.broken some) is
+
+-- what begins is whole
+pub starts_whole : (homes : List AfterImage) (j : Job) → (j ≡ Idle) ⊎ ((j ≡ Body) ⊎ ((j ≡ homes_from homes) ⊎ (j ≡ Leave))) → j ≢ Broken
+starts_whole homes j (inl idle) = λ e. let wrong : ◌≡◌ {A = Job} Idle Broken = sym idle ∙ e in cc
+starts_whole homes j (inr (inl body)) = λ e. let wrong : ◌≡◌ {A = Job} Body Broken = sym body ∙ e in cc
+starts_whole homes j (inr (inr (inl from))) = λ e. if_job (λ x. x ≢ Broken) (0 == length homes) HomesOut (Homes 0) (λ h. cc) (λ h. cc) (sym from ∙ e)
+starts_whole homes j (inr (inr (inr leave))) = λ e. let wrong : ◌≡◌ {A = Job} Leave Broken = sym leave ∙ e in cc
+
+-- where a wish is answered so
+pub wished : (b : Bool) (P : Job → Type 0) (j : Job) → (b ≡ true → P j) → (b ≡ false → P j) → P j
+wished true P j then_ else_ = then_ refl
+wished false P j then_ else_ = else_ refl
+
+-- the same use, with the same history
+pub used_still : (o : World) (k k2 : Kernel) → k2.history ≡ k.history → IsInUse o k → IsInUse o k2
+used_still o k k2 same used = subst (λ (es : List Event). (after_all o es).phase ≡ in_use) (sym (ap (λ (v : Vec Event Global). v.items) same)) used

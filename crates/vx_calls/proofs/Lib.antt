@@ -1,0 +1,4 @@
+mod Asking
+mod Keeping
+mod Lines
+mod Noting

@@ -1,0 +1,18 @@
+use Rattle.std.proofs.Common.{◌≡◌, ◌∙◌, sym, Option, Some, None}
+use Rattle.std.specs.Prelude.{IsSome}
+use Rattle.vx_base.specs.declared.event.Event.TheVariants as event
+use Rattle.vx_stage.specs.declared.kernel.Job.{Job}
+use Rattle.vx_stage.specs.declared.kernel.Job.TheVariants.{Left, Broken}
+use Rattle.vx_calls.proofs.Keeping.{pushed_at}
+use Rattle.vx_calls.proofs.mount.Mount.finish.Goals as goal
+
+none_some : {A : Type 0} {x : Option A} → x ≡ None → IsSome x → ⊥
+none_some none some = cc
+
+pub returns-in-Ok-clause-at : goal.returns-in-Ok-clause-at
+returns-in-Ok-clause-at g c = λ o at over.
+    let m = c.args.self.now in
+    let d = g.D.BlockDev.state c.args.dev.now in
+    let e = g.D.BlockDev.state c.finish.new.dev in
+    pushed_at o d e m at c.finish.new.self (event.Unmounted e.count) c.in-Ok.ensures.items (c.finish.ensures.run o at.run over) (c.finish.ensures.live o at.run over at.live) c.finish.ensures.fit
+    m.meta (λ none broken. let wrong : ◌≡◌ {A = Job} Left Broken = sym c.in-Ok.ensures.job ∙ broken in cc) (λ some. absurd (none_some c.requires.enabled some)) at.meta

@@ -1,0 +1,106 @@
+-- What a turn of a call comes to.
+use Rattle.std.specs.Prelude.{◌≡◌, ◌≢◌, ◌⊎◌, ◌+◌, ◌≤◌, ℕ, Bool, true, false, List, [], ◌∷◌, ◌++◌, length, set, Option, None, Some, IsSome}
+use Rattle.vx_base.specs.declared.call.Call.{Call}
+use Rattle.vx_base.specs.declared.call.Call.TheVariants as call
+use Rattle.vx_base.specs.declared.event.Event.{Event}
+use Rattle.vx_base.specs.declared.event.Event.TheVariants as event
+use Rattle.vx_base.specs.declared.refusal.Refusal.{Refusal}
+use Rattle.vx_base.specs.declared.refusal.Refusal.TheVariants as no
+use Rattle.vx_base.specs.declared.reply.Reply.{Reply}
+use Rattle.vx_base.specs.declared.reply.Reply.TheVariants as say
+use Rattle.vx_base.specs.Lines.{lines_of, line_after}
+use Rattle.vx_dev.specs.Tape as dev
+use Rattle.vx_dev.specs.Moments.{Told}
+use Rattle.vx_model.specs.Allowed.{has_front, is_refusal}
+use Rattle.vx_model.specs.LaidOut.{IsLaidOut}
+use Rattle.vx_model.specs.Legal.{World, IfThere, after_all, is_fault, is_no_space}
+use Rattle.vx_model.specs.State.{State}
+use Rattle.vx_model.specs.Step.{step, has_step}
+use Rattle.vx_model.specs.Touching.{Touched, IsTouched, untouched}
+use Rattle.vx_stage.specs.Growths.{called_state}
+use Rattle.vx_stage.specs.Kernels.{IsFit, HasRun, IsLive, present}
+use Rattle.vx_stage.specs.declared.kernel.Job.TheVariants.{Broken}
+use Rattle.vx_txn.specs.Calls.{HasMode, most}
+use Rattle.vx_txn.specs.Metas.{IsStateOf}
+use Rattle.vx_calls.specs.declared.mount.Mount.{Mount}
+use Rattle.vx_calls.specs.declared.asked.Asked.{Asked}
+use Rattle.vx_calls.specs.declared.asked.Asked.TheVariants as asked
+use Rattle.vx_calls.specs.declared.mount.Performed.{Performed}
+use Rattle.vx_calls.specs.declared.mount.Performed.TheVariants.{Again, Done}
+use Rattle.vx_calls.specs.Mounts.{IsAt, Released}
+
+-- the session has such a line, and it is one that can be done
+abbrev pub IsBuilt : Option Call → Type 0
+IsBuilt None = ⊥
+IsBuilt (Some c) = (has_step c ≡ true) × HasMode c
+
+-- ---- whose fault it is
+
+-- a refusal that a fault of the device has caused, in this call or an earlier one
+abbrev pub is_of_device : Refusal → Bool
+is_of_device no.ReadFault = true
+is_of_device no.WriteFault = true
+is_of_device (no.Disabled faults) = true
+is_of_device _ = false
+
+abbrev pub IsFaultless : Reply → Type 0
+IsFaultless (say.Refused why) = is_of_device why ≡ false
+IsFaultless _ = Unit {0}
+
+-- How a turn tells the device's faults: where no write has failed in this mount, the answer tells none; where one fails in this very
+-- turn it is WriteFault; and where one had failed before it is Disabled, with the count of then.
+abbrev pub TellsFault : (before now : Option ℕ) → (write_faults : ℕ) → Reply → Type 0
+TellsFault None None write_faults answer = IsFaultless answer
+TellsFault None (Some faults) write_faults answer = (faults ≡ write_faults) × (answer ≡ say.Refused no.WriteFault)
+TellsFault (Some faults) now write_faults answer = (now ≡ Some faults) × (answer ≡ say.Refused (no.Disabled faults))
+
+-- ---- a call whose reply is known, and that is not noted yet
+
+pub record HasReplied (o : World) (d : dev.State) (m : Mount) (c : Call) (reply : Reply) : Type 0 where
+  pub run : HasRun o d m.kernel
+  pub live : Told d (IsLive o m.kernel)
+  pub fit : IsFit d m.kernel
+  pub transaction : m.transaction ≡ []
+  pub enabled : m.disabled ≡ None → m.kernel.job ≢ Broken
+  pub broken : IsSome m.disabled → m.kernel.job ≡ Broken
+  -- the state that it leads to
+  pub new : State
+  pub meta : IsStateOf m.meta new
+  pub laid_out : IsLaidOut new
+  pub reply_is : (session : ℕ) → IfThere (step (present o m.kernel) (length m.kernel.history.items) session c) (λ done. (reply ≡ done.reply) ⊎ (is_fault reply ≡ true))
+  pub state_is : (session : ℕ) → called_state o m.kernel session c reply ≡ new
+  pub touched : IsTouched (present o m.kernel) new m.touched
+  pub few : most m.touched ≤ 4
+  pub place : (m.touched ≡ untouched) ⊎ (length m.kernel.gathered ≤ 144)
+  -- where blocks wait to be free, a call is not refused for want of them
+  pub all_released : is_no_space reply ≡ true → (b : ℕ) → (present o m.kernel).layout.pending b ≡ None
+
+-- the reply is known, with a copy of it; or a stage came first
+abbrev pub HasAsked : (d : dev.State) (old new : Mount) → Asked → Type 0
+HasAsked d old new asked.Again =
+    Released old.kernel.history.items new.kernel.history.items d.count × ((old.disabled ≡ None) × (new.disabled ≡ None))
+HasAsked d old new (asked.Replied reply copy) =
+    (new.kernel.history ≡ old.kernel.history) × ((copy ≡ reply) × TellsFault old.disabled new.disabled d.write_faults reply)
+
+-- what is known of the mount then
+abbrev pub IsAsked : World → dev.State → Mount → Call → Asked → Type 0
+IsAsked o d m c asked.Again = IsAt o d m
+IsAsked o d m c (asked.Replied reply copy) = HasReplied o d m c reply
+
+-- ---- a turn
+
+-- the session's line after so many was done: the Do stands last in the history, and its line was moved there
+pub record HasDone (at : ℕ) (old new : Mount) (lines later : List (List Call)) (session answered place : ℕ) (answer : Reply) (commits : Bool) : Type 0 where
+  pub begun : Call
+  pub line : line_after lines session answered ≡ Some begun
+  pub place_is : place ≡ length old.kernel.history.items
+  pub history : new.kernel.history.items ≡ old.kernel.history.items ++ event.Do at session (answered + 1) begun answer ∷ []
+  pub moved : later ≡ set lines session (set (lines_of lines session) answered call.Sync)
+  pub commits_is : commits ≡ has_front old.kernel.logging begun
+
+-- what the first turns of a call come to: it was done; or a stage came first, that makes room for it
+abbrev pub HasPerformed : (d : dev.State) (old new : Mount) (lines later : List (List Call)) (session answered : ℕ) → Performed → Type 0
+HasPerformed d old new lines later session answered Again =
+    Released old.kernel.history.items new.kernel.history.items d.count × ((later ≡ lines) × ((old.disabled ≡ None) × (new.disabled ≡ None)))
+HasPerformed d old new lines later session answered (Done place answer commits) =
+    HasDone d.count old new lines later session answered place answer commits × TellsFault old.disabled new.disabled d.write_faults answer
