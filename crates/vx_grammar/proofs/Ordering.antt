@@ -8,7 +8,8 @@ use Rattle.std.specs.Prelude.{slice_get, slice_index, slice_set}
 use Rattle.vx_base.specs.declared.call.Call.{Call}
 use Rattle.vx_base.specs.declared.call.Call.TheVariants as call
 use Rattle.vx_base.specs.Lines.{lines_of, line_after}
-use Rattle.vx_grammar.specs.Orders.{lines_in, IsMet, CanFollow, IsOrder, CanBegin, is_met_by, so_far, IsFurthest, SaysWhatBegins, IsLowestStuck}
+use Rattle.vx_grammar.specs.NextLines.{AlwaysHasNextLine}
+use Rattle.vx_grammar.specs.Orders.{lines_in, IsMet, CanFollow, IsOrder, HasOrder, CanBegin, is_met_by, so_far, IsFurthest, SaysWhatBegins, IsLowestStuck}
 use Rattle.vx_grammar.proofs.Going.{IsMetBy, met_by, lines_in-more, lines_in-none, next_after, met_there, there_below}
 
 -- the test of a line, and what it says
@@ -236,3 +237,19 @@ lowest_stuck lines left number_of session number says numbers here least = recor
         absurd (omega arith)
   ];
 }
+
+-- ---- whoever takes turns
+
+-- where a session has a line left, the order has a session whose next line can come
+pub always_next : (lines : List (List Call)) → HasOrder lines → AlwaysHasNextLine lines
+always_next lines ordered = λ answered session line is.
+    let left = (there_below lines session (answered session) line is).1 in
+    let all : lines_in session ordered.order ≡ length (lines_of lines session) = ordered.all session in
+    let fewer : answered session < lines_in session ([] ++ ordered.order) = rw all left in
+    let next = next_after lines answered [] ordered.order session ordered.each (λ t. omega (arith, lines_in-none t)) fewer in
+    let there = met_there answered (line_after lines next.session (answered next.session)) next.met in
+    record {
+      session = next.session;
+      among = (there_below lines next.session (answered next.session) there.0 there.1).0;
+      met = test_met answered (line_after lines next.session (answered next.session)) next.met;
+    }

@@ -14,10 +14,10 @@ use Rattle.vx_grammar.specs.declared.why.ScriptRefusal.{ScriptRefusal}
 use Rattle.vx_grammar.specs.declared.why.ScriptRefusal.TheVariants.{BadLine, TooLong}
 use Rattle.vx_grammar.specs.Lines.{lines_of}
 use Rattle.vx_grammar.specs.declared.reader.Command.{Command}
-use Rattle.vx_grammar.specs.Keywords.{built_sessions}
+use Rattle.vx_grammar.specs.Orders.{most_sessions}
 use Rattle.vx_grammar.specs.Words.{Word, is_word, is_skipped, words_of, number_of}
 use Rattle.vx_grammar.specs.Commands.{need, command_call}
-use Rattle.vx_grammar.specs.Readings.{Reading, Read, unless_bad, sessions_of, with_sessions, with_actor, actors_of, joined, with_schedule, with_schedule_line, with_command, with_call, with_line, with_words, with_any, after_line, after_lines, at_end, go_on, few_lines, reading_of, most_bytes, IsWhole, nothing_read, most_lines, most_read, most_written, most_lists, read_bytes, written_bytes, list_count, no_commands, command_words, RisesTo, AreBelow, IsCounted, first_call_line, IsSound}
+use Rattle.vx_grammar.specs.Readings.{Reading, Read, unless_bad, sessions_of, with_sessions, with_actor, actors_of, joined, with_schedule, with_command, with_call, with_line, with_words, with_any, after_line, after_lines, at_end, go_on, few_lines, reading_of, most_bytes, IsWhole, nothing_read, most_lines, most_read, most_written, most_lists, read_bytes, written_bytes, list_count, no_commands, command_words, RisesTo, AreBelow, IsCounted, first_call_line, IsSound}
 use Rattle.vx_grammar.specs.Forms.{IsInRange, IsScriptCall}
 use Rattle.vx_grammar.proofs.FormLaws.{number_small, command_form, held}
 
@@ -62,11 +62,11 @@ either number false x y h k = k refl
 
 -- ---- sessions and schedules
 
-sessions_few : (b : Bool) (number : Word) (n : ℕ) → (if b then number_of 1 built_sessions number else None) ≡ Some n → (1 ≤ n) × (n ≤ built_sessions)
-sessions_few true number n h = number_small 1 built_sessions number n h
+sessions_few : (b : Bool) (number : Word) (n : ℕ) → (if b then number_of 1 most_sessions number else None) ≡ Some n → (1 ≤ n) × (n ≤ most_sessions)
+sessions_few true number n h = number_small 1 most_sessions number n h
 sessions_few false number n h = absurd (cc)
 
-sessions_small : (words : List Word) (n : ℕ) → sessions_of words ≡ Some n → (1 ≤ n) × (n ≤ built_sessions)
+sessions_small : (words : List Word) (n : ℕ) → sessions_of words ≡ Some n → (1 ≤ n) × (n ≤ most_sessions)
 sessions_small [] n h = absurd (cc)
 sessions_small (name ∷ []) n h = absurd (cc)
 sessions_small (name ∷ number ∷ []) n h = sessions_few (is_word name (codes "sessions")) number n h
@@ -199,9 +199,6 @@ with_command_good r c own form s =
       };
     }))))
 
-with_schedule_line_good : (r : Reading) (number : ℕ) (words : List Word) → 1 ≤ r.sessions → IsSound r number → Good number (with_schedule_line r words)
-with_schedule_line_good r number words some s = either number (nat_lt 1 built_sessions) _ _ (λ e. with_schedule_good r number words some s) (λ e. bad_good number why.Unknown)
-
 with_call_good : (r : Reading) (number : ℕ) (first : Word) (words : List Word) → 1 ≤ r.sessions → IsSound r number → Good number (with_call r number first words)
 with_call_good r number first words some s =
     need_good number why.Sessions (number_of 0 (r.sessions - 1) first) _ (λ session e. need_good number why.Unknown (command_words words) _ (λ w f.
@@ -212,7 +209,7 @@ with_call_good r number first words some s =
 with_line_good : (r : Reading) (number : ℕ) (words : List Word) → 1 ≤ r.sessions → IsSound r number → Good number (with_line r number words)
 with_line_good r number [] some s = record { good = sound_later r number s }
 with_line_good r number (first ∷ words) some s =
-    either number (is_word first (codes "schedule") && no_commands r) _ _ (λ e. with_schedule_line_good r number words some s) (λ e. with_call_good r number first words some s)
+    either number (is_word first (codes "schedule") && no_commands r) _ _ (λ e. with_schedule_good r number words some s) (λ e. with_call_good r number first words some s)
 
 with_words_good : (r : Reading) (number : ℕ) (words : List Word) → IsSound r number → Good number (with_words r number words)
 with_words_good r number words s =

@@ -122,16 +122,15 @@ is_built name.Stat = true
 is_built name.List = true
 is_built name.Link = true
 is_built name.Rename = true
+is_built name.Sync = true
+is_built name.Tick = true
+is_built name.Stop = true
+is_built name.After = true
 is_built _ = false
 
 abbrev pub built : Option CommandName → Option CommandName
 built None = None
 built (Some command) = if is_built command then Some command else None
-
--- So many sessions a script can have by now. A line that asks for more is a wrong `sessions` line, and where there is one session alone
--- a `schedule` is an unknown command.
-abbrev pub built_sessions : ℕ
-built_sessions = 1
 
 unfoldable pub spelled_command : Word → Option CommandName
 spelled_command word = option_or (option_or (option_or (tree_command word) (file_command word)) (mount_command word)) (extent_command word)

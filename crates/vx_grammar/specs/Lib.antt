@@ -6,4 +6,5 @@ pub mod Faults
 pub mod Forms
 pub mod Readings
 pub mod Orders
+pub mod NextLines
 pub mod Scripts

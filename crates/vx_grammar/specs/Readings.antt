@@ -12,7 +12,7 @@ use Rattle.vx_grammar.specs.declared.why.LineFault.TheVariants.{Bad, OutOfMemory
 use Rattle.vx_grammar.specs.Lines.{lines_of}
 use Rattle.vx_grammar.specs.Words.{Word, is_word, is_skipped, words_of, number_of}
 use Rattle.vx_grammar.specs.Commands.{need, command_call}
-use Rattle.vx_grammar.specs.Keywords.{built_sessions}
+use Rattle.vx_grammar.specs.Orders.{most_sessions}
 use Rattle.vx_grammar.specs.Forms.{IsScriptCall}
 use Rattle.vx_grammar.specs.declared.reader.Command.{Command}
 
@@ -40,7 +40,7 @@ unless_bad (Ok x) later = later x
 -- ---- the line of sessions
 
 abbrev pub sessions_of : List Word → Option ℕ
-sessions_of (name ∷ number ∷ []) = if is_word name (codes "sessions") then number_of 1 built_sessions number else None
+sessions_of (name ∷ number ∷ []) = if is_word name (codes "sessions") then number_of 1 most_sessions number else None
 sessions_of _ = None
 
 abbrev pub with_sessions : Reading → List Word → Read
@@ -67,9 +67,6 @@ abbrev pub with_schedule : Reading → List Word → Read
 with_schedule r words =
     if length words == 0 then Err why.Words
     else need why.Number (joined (unwrap_or r.schedule []) (actors_of r.sessions words)) (λ actors. Ok (record r { schedule = Some actors }))
-
-abbrev pub with_schedule_line : Reading → List Word → Read
-with_schedule_line r words = if nat_lt 1 built_sessions then with_schedule r words else Err why.Unknown
 
 -- ---- the lines with calls
 
@@ -133,7 +130,7 @@ no_commands r = length r.commands == 0
 -- after the line of sessions: schedule lines stand before all calls
 abbrev pub with_line : Reading → (number : ℕ) → List Word → Read
 with_line r number [] = Ok r
-with_line r number (first ∷ words) = if is_word first (codes "schedule") && no_commands r then with_schedule_line r words else with_call r number first words
+with_line r number (first ∷ words) = if is_word first (codes "schedule") && no_commands r then with_schedule r words else with_call r number first words
 
 abbrev pub with_words : Reading → (number : ℕ) → List Word → Read
 with_words r number words = if r.sessions == 0 then with_sessions r words else with_line r number words
@@ -182,7 +179,7 @@ AreBelow bound None = Unit {0}
 AreBelow bound (Some actors) = All (λ actor. actor < bound) actors
 
 pub record IsWithin (r : Reading) : Type 0 where
-  pub few_sessions : r.sessions ≤ built_sessions
+  pub few_sessions : r.sessions ≤ most_sessions
   pub read_few : r.read_sum ≤ most_read
   pub wrote_few : r.write_sum ≤ most_written
   pub few_lists : r.lists ≤ most_lists

@@ -1,8 +1,7 @@
 -- What a script is, and why it is refused.
 use Rattle.std.specs.Prelude.{◌≡◌, ℕ, ◌+◌, All, ◌==◌, ◌<◌, ◌≤◌, nat_lt, if◌then◌else◌, Bool, List, [], length, map, filter, sum_by, slice_get, unwrap_or, Option, Some, None, Ok, Err}
 use Rattle.vx_base.specs.declared.call.Call.{Call}
-use Rattle.vx_grammar.specs.Keywords.{built_sessions}
-use Rattle.vx_grammar.specs.Orders.{below, HasOrder, IsLowestStuck}
+use Rattle.vx_grammar.specs.Orders.{most_sessions, below, HasOrder, IsLowestStuck}
 use Rattle.vx_grammar.specs.declared.why.ScriptRefusal.{ScriptRefusal}
 use Rattle.vx_grammar.specs.declared.why.ScriptRefusal.TheVariants.{TooLong, BadLine, BadOrder, NoMemory}
 use Rattle.vx_grammar.specs.declared.reader.Command.{Command}
@@ -39,10 +38,10 @@ number_at numbers session before = slice_get (unwrap_or (slice_get numbers sessi
 abbrev pub sum_over : (Call → ℕ) → List (List Call) → ℕ
 sum_over term lines = sum_by (λ calls. sum_by term calls) lines
 
--- what every script has: a session or more, and no more than are built, which alone its schedule names; calls that a line can ask for, and no more of them than the limits allow; and an order of all lines
+-- what every script has: sessions, 16 at most, which alone its schedule names; calls that a line can ask for, and no more of them than the limits allow; and an order of all lines
 pub record IsScript (script : Script) : Type 0 where
   pub some : 1 ≤ script.sessions
-  pub few_sessions : script.sessions ≤ built_sessions
+  pub few_sessions : script.sessions ≤ most_sessions
   pub actors : AreBelow script.sessions script.schedule
   pub count : length script.lines ≡ script.sessions
   pub each : All (λ calls. All (IsScriptCall script.sessions) calls) script.lines

@@ -8,10 +8,6 @@ use crate::lines::cut_at;
 use crate::words::{Word, is_word};
 use vx_base::{Flag, Tunable};
 
-/// The greatest number of sessions of a script by now, and with more than one it may have a schedule; with its definition the one place
-/// that switches these off.
-pub const BUILT_SESSIONS: u64 = 1;
-
 /// The commands of a script.
 #[derive(Clone, Copy, Debug, PartialEq, Eq)]
 pub enum CommandName {
@@ -66,6 +62,10 @@ fn is_built(command: CommandName) -> bool
             | CommandName::List
             | CommandName::Link
             | CommandName::Rename
+            | CommandName::Sync
+            | CommandName::Tick
+            | CommandName::Stop
+            | CommandName::After
     )
 }
 

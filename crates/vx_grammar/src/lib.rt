@@ -5,6 +5,7 @@ mod commands;
 mod fields;
 mod groups;
 mod keywords;
+pub mod laws;
 mod lines;
 mod lowest;
 mod numbers;

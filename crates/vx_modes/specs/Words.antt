@@ -47,6 +47,16 @@ choice_of word =
     else (if bytes_eq (take 10 word) (codes "convosync=") then option_map choice.ConvOSync (convosync_of (drop 10 word))
     else plain_choice word)
 
+-- the choices that there are by now; one that is not built yet is no option
+abbrev pub is_built : Choice → Bool
+is_built (choice.Logging logging.Log) = true
+is_built (choice.Logging logging.DelayLog) = true
+is_built _ = false
+
+abbrev pub built : Option Choice → Option Choice
+built None = None
+built (Some choice) = if is_built choice then Some choice else None
+
 -- ---- choices
 
 abbrev pub no_choices : Choices
@@ -69,7 +79,7 @@ with_choice_at at c (Some choice) = with_choice c choice
 
 -- the choices with that of the word at a place
 unfoldable pub with_word : ℕ → Choices → List ℕ → Result Choices OptionRefusal
-with_word at c word = with_choice_at at c (choice_of word)
+with_word at c word = with_choice_at at c (built (choice_of word))
 
 abbrev pub with_defaults : Choices → Options
 with_defaults c = record {

@@ -1,6 +1,6 @@
 //! The choices that a list of options makes, one element at a time.
 ghost use Rattle.std.specs.Prelude.{◌≡◌, ◌+◌, ◌≤◌, IfOk};
-ghost use Rattle.vx_modes.specs.Words.{choice_of, plain_choice, mincache_of, convosync_of, no_choices, with_choice, with_word, with_defaults, count_of};
+ghost use Rattle.vx_modes.specs.Words.{choice_of, plain_choice, mincache_of, convosync_of, is_built, no_choices, with_choice, with_word, with_defaults, count_of};
 
 use crate::options::{OptionName, OptionRefusal, Options};
 use vx_base::{ConvOSync, Logging, MinCache};
@@ -43,8 +43,8 @@ impl Choices {
         ensures few { IfOk result (λ choices. count_of choices ≤ 4) }
     {
         match choice_of_word(word) {
-            Some(choice) => self.with_choice(choice),
-            None => Err(OptionRefusal::BadOption { at }),
+            Some(choice) if is_built(choice) => self.with_choice(choice),
+            _ => Err(OptionRefusal::BadOption { at }),
         }
     }
 
@@ -93,6 +93,16 @@ impl Choices {
             convosync: self.convosync,
         }
     }
+}
+
+/// Whether there is the choice by now; with the definition the one place that switches choices off.
+fn is_built(choice: Choice) -> bool
+    ensures { result ≡ is_built choice }
+{
+    matches!(
+        choice,
+        Choice::Logging(Logging::Log) | Choice::Logging(Logging::DelayLog)
+    )
 }
 
 #[tactic(auto, unfolding(crate::specs::Words::choice_of))]

@@ -27,7 +27,7 @@ pub enum OptionName {
 /// Why a list of options is refused.
 #[derive(Clone, Copy, Debug, PartialEq, Eq)]
 pub enum OptionRefusal {
-    /// The element at this place, from 0, is no option.
+    /// The element at this place, from 0, is no option, or one that is not built.
     BadOption { at: u32 },
     /// It is chosen a second time.
     Twice(OptionName),

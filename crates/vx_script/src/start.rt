@@ -1,21 +1,26 @@
 //! Why a run is refused before its first turn.
-ghost use Rattle.std.specs.Prelude.{◌≡◌, [], OnOk, OnErr, map, decimal};
+ghost use Rattle.std.specs.Prelude.{◌≡◌, [], OnOk, OnErr};
 ghost use Rattle.std.specs.Io.KnownBytes.{Appends};
 ghost use Rattle.vx_base.specs.Faults.{HasCause};
 ghost use Rattle.vx_script.specs.Puts.{AppendsPrefix, Puts};
 ghost use Rattle.vx_script.specs.Words.{spaced_list};
-ghost use Rattle.vx_script.specs.Start.{status_of, name_of_start, fields_of_start, refused_line, refused_text, start_of};
+ghost use Rattle.vx_script.specs.Start.{status_of, name_of_start, word_of_option, fields_of_start, refused_line, refused_text, start_of, start_of_options};
 
 use crate::text_buffer::{TextBuffer, flush, put};
 use crate::words::{Word, put_spaced, put_words};
 use vx_base::{Sink, SinkFault};
 use vx_grammar::ScriptRefusal;
+use vx_modes::{OptionName, OptionRefusal};
 
 /// Why a run is refused before its first turn.
 #[derive(Clone, Copy, Debug, PartialEq, Eq)]
 pub enum StartRefusal {
     /// The words of the command line.
     BadWords,
+    /// The element of the list of options at this place, from 0, is none.
+    BadOption { at: u32 },
+    /// The list of options chooses it a second time.
+    Twice(OptionName),
     /// In sectors.
     DeviceTooSmall { have: u64, want: u64 },
     /// The script has too many bytes.
@@ -37,7 +42,8 @@ impl StartRefusal {
         ensures { result ≡ status_of self.now }
     {
         match self {
-            StartRefusal::BadWords => 1,
+            StartRefusal::BadWords | StartRefusal::BadOption { at: _ } | StartRefusal::Twice(_) =>
+                1,
             StartRefusal::DeviceTooSmall { have: _, want: _ } => 2,
             StartRefusal::TooLong
             | StartRefusal::BadLine { line: _ }
@@ -58,6 +64,17 @@ impl From<ScriptRefusal> for StartRefusal {
             ScriptRefusal::BadLine { line, why: _ } => StartRefusal::BadLine { line },
             ScriptRefusal::BadOrder { line } => StartRefusal::BadOrder { line },
             ScriptRefusal::NoMemory => StartRefusal::NoMemory,
+        }
+    }
+}
+
+impl From<OptionRefusal> for StartRefusal {
+    ghost from_gives = { λ why start. start ≡ start_of_options why };
+
+    fn from(why: OptionRefusal) -> StartRefusal {
+        match why {
+            OptionRefusal::BadOption { at } => StartRefusal::BadOption { at },
+            OptionRefusal::Twice(name) => StartRefusal::Twice(name),
         }
     }
 }
@@ -121,7 +138,7 @@ fn put_start_fields<K: Sink>(
     why: &StartRefusal,
 ) -> Result<(), SinkFault>
     ensures { Puts K.taken K.fault_count out.old out.new buffer.old buffer.new result
-        (spaced_list (map decimal (fields_of_start why.now))) }
+        (spaced_list (fields_of_start why.now)) }
 {
     match why {
         StartRefusal::DeviceTooSmall { have, want } => put_words(
@@ -129,9 +146,12 @@ fn put_start_fields<K: Sink>(
             buffer,
             &[Word::Number(*have), Word::Number(*want)],
         ),
-        StartRefusal::BadLine { line } | StartRefusal::BadOrder { line } => {
-            put_words(out, buffer, &[Word::Number(*line as u64)])
+        StartRefusal::BadLine { line: n }
+        | StartRefusal::BadOrder { line: n }
+        | StartRefusal::BadOption { at: n } => {
+            put_words(out, buffer, &[Word::Number(*n as u64)])
         }
+        StartRefusal::Twice(name) => put_words(out, buffer, &[Word::Text(option_word(*name))]),
         _ => Ok(()),
     }
 }
@@ -141,6 +161,8 @@ fn name_of_start_refusal(why: &StartRefusal) -> &'static [u8]
 {
     match why {
         StartRefusal::BadWords => b"BadWords",
+        StartRefusal::BadOption { at: _ } => b"BadOption",
+        StartRefusal::Twice(_) => b"Twice",
         StartRefusal::DeviceTooSmall { have: _, want: _ } => b"DeviceTooSmall",
         StartRefusal::TooLong => b"TooLong",
         StartRefusal::BadLine { line: _ } => b"BadLine",
@@ -148,5 +170,17 @@ fn name_of_start_refusal(why: &StartRefusal) -> &'static [u8]
         StartRefusal::WriteFault => b"WriteFault",
         StartRefusal::ScriptFault => b"ScriptFault",
         StartRefusal::NoMemory => b"NoMemory",
+    }
+}
+
+/// The word of what a list of options chooses twice.
+fn option_word(name: OptionName) -> &'static [u8]
+    ensures { result.now ≡ word_of_option name }
+{
+    match name {
+        OptionName::Logging => b"logging",
+        OptionName::BlkClear => b"blkclear",
+        OptionName::MinCache => b"mincache",
+        OptionName::ConvOSync => b"convosync",
     }
 }

@@ -5,6 +5,7 @@ use std::test::Fail;
 use vx_base::{
     Bytes, Call, Event, ExtAttrs, Ino, MemSink, Name, Names, NumList, Refusal, Reply, SinkFault,
 };
+use vx_modes::{OptionName, OptionRefusal};
 
 fn asked(alloc: Global, session: u8, line: u32, reply: Reply) -> Result<Event, AllocError> {
     Ok(Event::Do {
@@ -58,21 +59,39 @@ fn renders_history(rt: HostRuntime) -> Result<(), Fail> {
     Ok(())
 }
 
-/// The sessions 1 and 0 have a call done each, and are answered in the other order; then session 1 is answered once more.
+/// The sessions 15 and 0 have a call done each, and are answered in the other order; then session 15 is answered once more.
 #[test]
 fn renders_sessions_in_order(rt: HostRuntime) -> Result<(), Fail> {
     let alloc = rt.alloc();
     let mut events = Vec::new(alloc);
-    events.push(asked(alloc, 1, 1, Reply::Fine)?)?;
+    events.push(asked(alloc, 15, 1, Reply::Fine)?)?;
     events.push(asked(alloc, 0, 1, Reply::Fine)?)?;
     events.push(answered(1, Reply::Fine))?;
     events.push(answered(0, Reply::Made { ino: Ino::new(3) }))?;
-    events.push(asked(alloc, 1, 2, Reply::Fine)?)?;
+    events.push(asked(alloc, 15, 2, Reply::Fine)?)?;
     events.push(answered(4, Reply::Fine))?;
     let mut sink = MemSink::new(alloc, 1000, NumList::new(alloc))?;
     assert!(rt; events.len() < 8);
     assert!(rt; render(events.as_slice(), &mut sink).is_ok());
-    let text = b"0 1 ok\n1 1 ok 3\n1 2 ok\ndisabled calls=3 moves=0 from=0 to=0\n";
+    let text = b"0 1 ok\n15 1 ok 3\n15 2 ok\ndisabled calls=3 moves=0 from=0 to=0\n";
+    assert!(rt; sink.as_slice() == text.as_slice());
+    Ok(())
+}
+
+#[test]
+fn renders_a_stop(rt: HostRuntime) -> Result<(), Fail> {
+    let alloc = rt.alloc();
+    let made = Reply::Made { ino: Ino::new(3) };
+    let mut events = Vec::new(alloc);
+    events.push(asked(alloc, 0, 1, Reply::Made { ino: Ino::new(3) })?)?;
+    events.push(answered(0, made))?;
+    events.push(asked(alloc, 0, 2, Reply::Fine)?)?;
+    events.push(answered(2, Reply::Fine))?;
+    events.push(Event::Stopped { at: 0 })?;
+    let mut sink = MemSink::new(alloc, 1000, NumList::new(alloc))?;
+    assert!(rt; events.len() < 8);
+    assert!(rt; render(events.as_slice(), &mut sink).is_ok());
+    let text = b"0 1 ok 3\n0 2 ok\nstopped calls=2 moves=0 from=0 to=0\n";
     assert!(rt; sink.as_slice() == text.as_slice());
     Ok(())
 }
@@ -183,6 +202,16 @@ fn expect_refusal(
 #[test]
 fn renders_refusals(rt: HostRuntime) -> Result<(), Fail> {
     expect_refusal(&rt, StartRefusal::BadWords, b"refused 1 BadWords\n")?;
+    expect_refusal(
+        &rt,
+        StartRefusal::from(OptionRefusal::Twice(OptionName::Logging)),
+        b"refused 1 Twice logging\n",
+    )?;
+    expect_refusal(
+        &rt,
+        StartRefusal::from(OptionRefusal::BadOption { at: 1 }),
+        b"refused 1 BadOption 1\n",
+    )?;
     expect_refusal(
         &rt,
         StartRefusal::DeviceTooSmall {
