@@ -1,8 +1,8 @@
 -- What each stage does to the kernel in memory, where the device takes it.
-use Rattle.std.specs.Prelude.{Bool, true, false, ◌==◌, ◌+◌, ◌^◌, ℕ, [], length, min, nat_lt, Option, Some, None, if◌then◌else◌, List}
+use Rattle.std.specs.Prelude.{◌≡◌, ◌≢◌, ◌⊎◌, Bool, true, false, ◌==◌, ◌+◌, ◌^◌, ◌<◌, ℕ, [], length, min, nat_lt, Option, Some, None, if◌then◌else◌, List}
 use Rattle.vx_layout.specs.LogForms.{AfterImage}
 use Rattle.vx_log.specs.Batches.{with_notes}
-use Rattle.vx_log.specs.Logs.{after_stage, is_body_out, opened, advanced, restarted}
+use Rattle.vx_log.specs.Logs.{after_stage, is_body_out, closed, opened, advanced, restarted}
 use Rattle.vx_log.specs.declared.log.Closing.{Closing}
 use Rattle.vx_stage.specs.declared.kernel.Job.{Job}
 use Rattle.vx_stage.specs.declared.kernel.Job.TheVariants.{Idle, Body, BodyOut, Head, HeadOut, Homes, HomesOut, Tail, TailOut, Leave, LeaveOut, Left, Broken}
@@ -40,3 +40,37 @@ staged k Tail = record k { log = if nat_lt k.log.head (2 ^ 61) then advanced k.l
 staged k TailOut = record k { job = Idle }
 staged k Leave = record k { job = LeaveOut }
 staged k _ = k
+
+-- ---- what a wish begins
+
+-- all that has come is committed
+abbrev pub raised : Kernel → Kernel
+raised k = record k { committed = length k.history.items; closing = length k.history.items }
+
+-- the log is to be emptied
+abbrev pub emptying : Kernel → Kernel
+emptying k = record k { job = homes_from k.homes }
+
+-- the open batch is to be written, and calls join an empty one
+abbrev pub batched : Kernel → Kernel
+batched k = record k { log = closed k.log k.gathered; gathered = []; job = Body; closing = length k.history.items }
+
+-- a commit begins with the open batch, which is not empty, or with the emptying of the log
+pub record BeginsCommit (old new : Kernel) : Type 0 where
+  pub some : 0 < length old.gathered
+  pub is : (new ≡ record (batched old) { ready = new.ready }) ⊎ (new ≡ emptying old)
+
+-- ... and what else comes before blocks are released: the emptying of the log
+pub record BeginsEmptying (old new : Kernel) : Type 0 where
+  pub none : old.gathered ≡ []
+  pub is : new ≡ emptying (raised old)
+
+abbrev pub BeginsRelease : (old new : Kernel) → Type 0
+BeginsRelease old new = BeginsCommit old new ⊎ (BeginsEmptying old new × (0 < length old.homes))
+
+pub record BeginsLeaving (old new : Kernel) : Type 0 where
+  pub none : old.gathered ≡ []
+  pub is : new ≡ record (raised old) { job = Leave }
+
+abbrev pub BeginsClean : (old new : Kernel) → Type 0
+BeginsClean old new = BeginsCommit old new ⊎ ((BeginsEmptying old new × (old.log.tail ≢ old.log.head)) ⊎ BeginsLeaving old new)

@@ -1,8 +1,9 @@
 //! Where a mount begins.
-ghost use Rattle.std.specs.Prelude.{◌≡◌, ◌<◌, ◌≤◌, ◌+◌, ◌^◌, ℕ, [], Some, None, IsNone, IfOk, OnOk};
+ghost use Rattle.std.specs.Prelude.{◌≡◌, ◌<◌, ◌≤◌, ◌+◌, ◌^◌, ℕ, [], Some, None, IsNone, IfOk, OnOk, OnErr};
 ghost use Rattle.vx_log.specs.Logs.{fresh_log};
 ghost use Rattle.vx_mkfs.specs.Formats.{format_operations};
 ghost use Rattle.vx_base.specs.Faults.{HasCause};
+ghost use Rattle.vx_dev.specs.Runs.{Onward};
 ghost use Rattle.vx_dev.specs.Tape.{IsInStep, State as Device};
 ghost use Rattle.vx_layout.specs.Supers.{IsSuper};
 ghost use Rattle.vx_dev.specs.Moments.{Told, Passed};
@@ -116,7 +117,10 @@ pub fn new_mount<D: BlockDev>(
     ensures run { IfOk result (HasRun (opening (D.state dev.new).count (fresh_of sizes 1 (D.state dev.old).size)) (D.state dev.new)) }
     ensures live { IfOk result (λ k. Told (D.state dev.new) (IsLive (opening (D.state dev.new).count (fresh_of sizes 1 (D.state dev.old).size)) k)) }
     ensures empty { IfOk result (λ k. k.history.items ≡ []) }
+    ensures same { IfOk result (λ k. k ≡ record { sizes = sizes; logging = logging; first = (D.state dev.new).count; log = room.log; homes = room.homes; gathered = room.gathered; ready = Some room.ready; job = Idle; committed = 0; closing = 0; history = room.history }) }
+    ensures onward { Onward (D.state dev.old) (D.state dev.new) }
     ensures count { OnOk result ((D.state dev.new).count ≡ (D.state dev.old).count + format_operations sizes) }
+    ensures fewer { OnErr result ((D.state dev.new).count < (D.state dev.old).count + format_operations sizes) }
     ensures cause { HasCause (D.state dev.old).write_faults (D.state dev.new).write_faults result }
 {
     // The proof rests on these laws; nothing runs here.

@@ -5,7 +5,7 @@ ghost use Rattle.vx_layout.specs.LogForms.{log_length};
 ghost use Rattle.vx_dev.specs.Moments.{Told};
 ghost use Rattle.vx_model.specs.Legal.{World};
 ghost use Rattle.vx_stage.specs.Kernels.{IsFitAlone, HasRun, IsLive};
-ghost use Rattle.vx_stage.specs.Staged.{homes_from};
+ghost use Rattle.vx_stage.specs.Staged.{homes_from, raised, BeginsCommit, BeginsRelease, BeginsClean};
 ghost use Rattle.vx_stage.specs.declared.kernel.Job.TheVariants.{Idle, Body, Leave};
 
 use crate::kernel::Kernel;
@@ -36,6 +36,7 @@ impl Kernel {
         ensures none { result ≡ true → self.old.gathered ≡ [] }
         ensures same { result ≡ true → self.new ≡ record self.old { committed = self.new.committed; closing = self.new.committed } }
         ensures begun { result ≡ false → (self.new.job ≡ Body) ⊎ (self.new.job ≡ homes_from self.old.homes) }
+        ensures begins { result ≡ false → BeginsCommit self.old self.new }
         ensures closes { 0 < length self.old.gathered → self.old.log.tail ≡ self.old.log.head → self.old.log.head ≤ 2 ^ 61 → self.new.job ≡ Body }
         ensures history { self.new.history ≡ self.old.history }
         ensures sizes { self.new.sizes ≡ self.old.sizes }
@@ -81,7 +82,10 @@ impl Kernel {
         requires fit { IsFitAlone self.old }
         ensures fit { IsFitAlone self.new }
         ensures ready { result ≡ true → (self.new.job ≡ Idle) × (self.new.homes ≡ []) × (self.new.committed ≡ length self.old.history.items) }
+        ensures same { result ≡ true → self.new ≡ raised self.old }
         ensures begun { result ≡ false → (self.new.job ≡ Body) ⊎ (self.new.job ≡ homes_from self.old.homes) }
+        ensures begins { result ≡ false → BeginsRelease self.old self.new }
+        ensures closes { 0 < length self.old.gathered → self.old.log.tail ≡ self.old.log.head → self.old.log.head ≤ 2 ^ 61 → self.new.job ≡ Body }
         ensures history { self.new.history ≡ self.old.history }
         ensures sizes { self.new.sizes ≡ self.old.sizes }
         ensures run { (o : World) (d : Device) → HasRun o d self.old → HasRun o d self.new }
@@ -104,6 +108,8 @@ impl Kernel {
         requires fit { IsFitAlone self.old }
         ensures fit { IsFitAlone self.new }
         ensures begun { (self.new.job ≡ Body) ⊎ ((self.new.job ≡ homes_from self.old.homes) ⊎ (self.new.job ≡ Leave)) }
+        ensures begins { BeginsClean self.old self.new }
+        ensures closes { 0 < length self.old.gathered → self.old.log.tail ≡ self.old.log.head → self.old.log.head ≤ 2 ^ 61 → self.new.job ≡ Body }
         ensures leaves { self.old.gathered ≡ [] → self.old.log.tail ≡ self.old.log.head → self.new.job ≡ Leave }
         ensures history { self.new.history ≡ self.old.history }
         ensures sizes { self.new.sizes ≡ self.old.sizes }

@@ -130,6 +130,8 @@ impl Kernel {
         ensures live { (o : World) → HasRun o (D.state dev.old) self.old → Told (D.state dev.old) (IsLive o self.old) → Told (D.state dev.new) (IsLive o self.new) }
         ensures run { (o : World) → HasRun o (D.state dev.old) self.old → HasRun o (D.state dev.new) self.new }
         ensures history { self.new.history ≡ self.old.history }
+        ensures logging { self.new.logging ≡ self.old.logging }
+        ensures first { self.new.first ≡ self.old.first }
         ensures done { OnOk result (self.new ≡ staged self.old self.old.job) }
         ensures broken { OnErr result (self.new.job ≡ Broken) }
         ensures few { (D.state dev.new).count ≤ (D.state dev.old).count + 8 }
@@ -453,6 +455,8 @@ impl Kernel {
         ensures left { OnOk result ((o : World) → HasRun o (D.state dev.old) self.old → IsOver o self.old → Told (D.state dev.old) (IsLive o self.old) → Told (D.state dev.new) (IsLeft (present o self.old).layout.device_sectors (present o self.old).tree)) }
         ensures items { OnOk result (self.new.history.items ≡ self.old.history.items ++ event.Unmounted (D.state dev.new).count ∷ []) }
         ensures job { OnOk result (self.new.job ≡ Left) }
+        ensures logging { self.new.logging ≡ self.old.logging }
+        ensures first { self.new.first ≡ self.old.first }
         ensures broken { OnErr result (self.new ≡ record self.old { job = Broken }) }
         ensures few { (D.state dev.new).count ≤ (D.state dev.old).count + 8 }
         ensures later { (D.state dev.old).count ≤ (D.state dev.new).count }
