@@ -1,113 +1,31 @@
 -- Some session's turn does something until all are finished.
-use Rattle.std.proofs.Common.{◌≡◌, ◌≢◌, ◌⊎◌, inl, inr, ℕ, ◌+◌, ◌≤◌, ◌<◌, ◌==◌, cond, List, [], ◌∷◌, ◌++◌, length, Bool, true, false, not, ◌||◌, add-one, Option, Some, None, refl, sym, ap, subst, ◌∙◌, append_assoc, append-nil, arith}
-use Rattle.std.proofs.lemmas.Bool.{cases_lt, eqb-true}
+use Rattle.std.proofs.Common.{◌≡◌, ◌≢◌, ◌⊎◌, inl, inr, ℕ, ◌+◌, ◌<◌, List, [], ◌∷◌, ◌++◌, length, Bool, true, false, not, ◌||◌, add-one, Option, Some, None, refl, sym, ap, subst, ◌∙◌, arith}
+use Rattle.std.proofs.lemmas.Bool.{cases_lt}
 use Rattle.std.proofs.lemmas.Bool.Decides.{nat_tests}
-use Rattle.std.proofs.lemmas.List.Sums.{sum_by-append, sum_by-cons}
-use Rattle.std.proofs.lemmas.Option.{slice_get_within, slice_get_past}
-use Rattle.std.specs.Prelude.{slice_get, unwrap_or}
+use Rattle.std.specs.Prelude.{slice_get}
 use Rattle.vx_base.specs.declared.call.Call.{Call}
 use Rattle.vx_base.specs.declared.call.Call.TheVariants as call
 use Rattle.vx_base.specs.declared.event.Event.{Event}
 use Rattle.vx_base.specs.declared.waits.WaitsFor.TheVariants.{Lock, After}
-use Rattle.vx_base.specs.Lines.{lines_of, line_after}
+use Rattle.vx_base.specs.Lines.{line_after}
+use Rattle.vx_grammar.specs.Orders.{is_met_by, below}
+use Rattle.vx_grammar.specs.NextLines.{AlwaysHasNextLine}
 use Rattle.vx_mount.specs.declared.turns.Turn.{Turn}
 use Rattle.vx_mount.specs.declared.turns.Turn.TheVariants.{Turned, Finished, Blocked}
 use Rattle.vx_mount.specs.Sessions.{answered, is_stopped, Standing, finished, waiting, ready, standing_at, standing}
-use Rattle.vx_mount.specs.Orders.{lines_in, IsMet, IsOrder}
-use Rattle.vx_mount.specs.Schedules.{below}
 use Rattle.vx_mount.specs.Cores.{CoreView, standing_in, is_finished, IsStuck, WaitsForLock, CanGoOn, AllFinished, TakesTurn, TakesTurns}
 use Rattle.vx_mount.proofs.Stepping.{no_turns, turns_more}
 
--- the line is there, and it waits for no more lines than have been answered
-abbrev pub IsMetBy : (ℕ → ℕ) → Option Call → Type 0
-IsMetBy so_far None = ⊥
-IsMetBy so_far (Some (call.After session lines)) = lines ≤ so_far session
-IsMetBy so_far (Some _) = Unit {0}
-
-pub met_by : (order : List ℕ) (so_far : ℕ → ℕ) (line : Option Call) → ((s : ℕ) → lines_in s order ≤ so_far s) → IsMet order line → IsMetBy so_far line
-met_by order so_far None most m = m
-met_by order so_far (Some (call.After session lines)) most m = omega (arith, most session)
-met_by order so_far (Some _) most m = tt
-
--- one entry more in an order
-pub lines_in-more : (session a : ℕ) (order : List ℕ) → lines_in session (order ++ a ∷ []) ≡ lines_in session order + cond (a == session) 1 0
-unfolding lines_in
-lines_in-more session a order = grind (arith, sum_by-append (λ s. cond (s == session) 1 0) order (a ∷ []), sum_by-cons (λ s. cond (s == session) 1 0) a [])
-
-pub lines_in-none : (session : ℕ) → lines_in session [] ≡ 0
-unfolding lines_in
-lines_in-none session = refl
-
--- a session whose next line waits for nothing that is not answered
-pub record HasNext (lines : List (List Call)) (so_far : ℕ → ℕ) : Type 0 where
-  pub session : ℕ
-  pub met : IsMetBy so_far (line_after lines session (so_far session))
-
--- the count of one session after an entry more
-one_more : (t s : ℕ) (front : List ℕ) (so_far : ℕ → ℕ) → lines_in t front ≤ so_far t → lines_in s front ≤ so_far s → lines_in s front < so_far s → lines_in t (front ++ s ∷ []) ≤ so_far t
-one_more t s front so_far h k lt = elim (s == t) as (λ b. (s == t) ≡ b → lines_in t (front ++ s ∷ []) ≤ so_far t) [
-  | true ↦ λ e.
-      let same : s ≡ t = eqb-true s t e in
-      let grown : lines_in t (front ++ s ∷ []) ≡ lines_in t front + cond {A = ℕ} (s == t) 1 0 = lines_in-more t s front in
-      let one : cond {A = ℕ} (s == t) 1 0 ≡ 1 = rw e refl in
-      let here : lines_in t front < so_far t = subst (λ x. lines_in x front < so_far x) same lt in
-      omega arith
-  | false ↦ λ e.
-      let grown : lines_in t (front ++ s ∷ []) ≡ lines_in t front + cond {A = ℕ} (s == t) 1 0 = lines_in-more t s front in
-      let none : cond {A = ℕ} (s == t) 1 0 ≡ 0 = rw e refl in
-      omega arith
-] refl
-
--- a front of the order is answered, and the whole of it is not
-pub next_after : (lines : List (List Call)) (so_far : ℕ → ℕ) (front rest : List ℕ) (a : ℕ)
-    → IsOrder lines (front ++ rest) → ((s : ℕ) → lines_in s front ≤ so_far s) → so_far a < lines_in a (front ++ rest) → HasNext lines so_far
-next_after lines so_far front [] a order most less =
-    let e : lines_in a (front ++ []) ≡ lines_in a front = ap (lines_in a) (append-nil front) in
-    absurd (omega (arith, most a))
-next_after lines so_far front (s ∷ rest) a order most less =
-    let again : (front ++ s ∷ []) ++ rest ≡ front ++ s ∷ rest = append_assoc front (s ∷ []) rest in
-    elim (cases_lt (lines_in s front) (so_far s)) [
-      | inl lt ↦
-          let most2 : (t : ℕ) → lines_in t (front ++ s ∷ []) ≤ so_far t = λ t. one_more t s front so_far (most t) (most s) lt in
-          next_after lines so_far (front ++ s ∷ []) rest a (subst (IsOrder lines) (sym again) order) most2
-          (subst (λ (o : List ℕ). so_far a < lines_in a o) (sym again) less)
-      | inr ge ↦
-          let same : lines_in s front ≡ so_far s = omega (arith, most s) in
-          record {
-            session = s;
-            met = met_by front so_far (line_after lines s (so_far s)) most
-                (subst (λ n. IsMet front (line_after lines s n)) same (order front rest s refl));
-          }
-    ]
-
 -- ---- where sessions stand
 
-met_ready : (history : List Event) (line : Option Call) → IsMetBy (λ s. answered s history) line → standing_at history line ≡ ready
-met_ready history None m = absurd m
+met_ready : (history : List Event) (line : Option Call) → is_met_by (λ s. answered s history) line ≡ true → standing_at history line ≡ ready
+met_ready history None m = absurd (cc)
 met_ready history (Some (call.After session lines)) m = grind (arith, nat_tests)
 met_ready history (Some _) m = refl
 
 there_unless_finished : (history : List Event) (line : Option Call) → standing_at history line ≢ finished → (c : Call) × (line ≡ Some c)
 there_unless_finished history None h = absurd (h refl)
 there_unless_finished history (Some c) h = (c, refl)
-
-pub met_there : (so_far : ℕ → ℕ) (line : Option Call) → IsMetBy so_far line → (c : Call) × (line ≡ Some c)
-met_there so_far None m = absurd m
-met_there so_far (Some c) m = (c, refl)
-
--- a session with a line is one of the sessions
-pub there_below : (lines : List (List Call)) (s n : ℕ) (c : Call) → line_after lines s n ≡ Some c → (s < length lines) × (n < length (lines_of lines s))
-unfolding lines_of line_after
-there_below lines s n c e =
-    let inside : n < length (unwrap_or (slice_get lines s) []) = slice_get_within (unwrap_or (slice_get lines s) []) n c e in
-    elim (cases_lt s (length lines)) [
-      | inl lt ↦ (lt, inside)
-      | inr ge ↦
-          let none : slice_get lines s ≡ None = slice_get_past lines s ge in
-          let empty : unwrap_or (slice_get lines s) [] ≡ [] = rw none refl in
-          let zero_long : length (unwrap_or (slice_get lines s) []) ≡ 0 = ap length empty in
-          absurd (omega arith)
-    ]
 
 pub standing_running : (lines : List (List Call)) (history : List Event) (s : ℕ) → is_stopped history ≡ false → standing lines history s ≡ standing_at history (line_after lines s (answered s history))
 unfolding standing
@@ -160,31 +78,26 @@ apart_ready : ready ≢ finished
 apart_ready h = cc
 
 -- a session with a line left makes some session ready, which none is
-left_over : (v : CoreView) → CanGoOn v → AreStuck v (length v.lines) → (s : ℕ) → is_stopped v.history ≡ false → standing_in v s ≢ finished → ⊥
-left_over v keeps all s e h =
+left_over : (v : CoreView) → CanGoOn v → AlwaysHasNextLine v.lines → AreStuck v (length v.lines) → (s : ℕ) → is_stopped v.history ≡ false → standing_in v s ≢ finished → ⊥
+left_over v keeps follows all s e h =
     let so_far = λ (t : ℕ). answered t v.history in
     let is = standing_running v.lines v.history s e in
     let line = there_unless_finished v.history (line_after v.lines s (so_far s)) (λ f. h (is ∙ f)) in
-    let below = there_below v.lines s (so_far s) line.0 line.1 in
-    let whole : lines_in s keeps.order.order ≡ length (lines_of v.lines s) = keeps.order.all s in
-    let fewer : so_far s < lines_in s ([] ++ keeps.order.order) = rw whole below.1 in
-    let next = next_after v.lines so_far [] keeps.order.order s keeps.order.each (λ t. rw lines_in-none (omega arith)) fewer in
-    let there = met_there so_far (line_after v.lines next.session (so_far next.session)) next.met in
-    let inside = there_below v.lines next.session (so_far next.session) there.0 there.1 in
-    nobody_ready v e keeps all next.session inside.0
+    let next = follows so_far s line.0 line.1 in
+    nobody_ready v e keeps all next.session next.among
     (standing_running v.lines v.history next.session e ∙ met_ready v.history (line_after v.lines next.session (so_far next.session)) next.met)
 
-finished_unless : (v : CoreView) → CanGoOn v → AreStuck v (length v.lines) → (s : ℕ) → is_stopped v.history ≡ false → (x : Standing) → standing_in v s ≡ x → standing_in v s ≡ finished
-finished_unless v keeps all s e finished h = h
-finished_unless v keeps all s e (waiting t n) h = absurd (left_over v keeps all s e (λ f. apart_waiting t n (sym h ∙ f)))
-finished_unless v keeps all s e ready h = absurd (left_over v keeps all s e (λ f. apart_ready (sym h ∙ f)))
+finished_unless : (v : CoreView) → CanGoOn v → AlwaysHasNextLine v.lines → AreStuck v (length v.lines) → (s : ℕ) → is_stopped v.history ≡ false → (x : Standing) → standing_in v s ≡ x → standing_in v s ≡ finished
+finished_unless v keeps follows all s e finished h = h
+finished_unless v keeps follows all s e (waiting t n) h = absurd (left_over v keeps follows all s e (λ f. apart_waiting t n (sym h ∙ f)))
+finished_unless v keeps follows all s e ready h = absurd (left_over v keeps follows all s e (λ f. apart_ready (sym h ∙ f)))
 
 -- if every session's turn does nothing, all are finished
-pub all_finished : (v : CoreView) → CanGoOn v → AreStuck v (length v.lines) → AllFinished v
-all_finished v keeps all s lt =
+pub all_finished : (v : CoreView) → CanGoOn v → AlwaysHasNextLine v.lines → AreStuck v (length v.lines) → AllFinished v
+all_finished v keeps follows all s lt =
     elim (is_stopped v.history) as (λ b. is_stopped v.history ≡ b → standing_in v s ≡ finished) [
       | true ↦ λ e. standing_stopped v.lines v.history s e
-      | false ↦ λ e. finished_unless v keeps all s e (standing_in v s) refl
+      | false ↦ λ e. finished_unless v keeps follows all s e (standing_in v s) refl
     ] refl
 
 or_false : (b : Bool) → b ≡ (b || false)
@@ -252,11 +165,11 @@ round_more v n busy Finished r h = subst (RoundSoFar v (n + 1)) (or_false busy) 
 round_more v n busy (Blocked (After t k)) r h = subst (RoundSoFar v (n + 1)) (or_true busy) (round_kept_back v n busy (Blocked (After t k)) r h (λ f. apart_waiting t k (sym h ∙ f)))
 round_more v n busy (Blocked (Lock ino holder)) r h = subst (RoundSoFar v (n + 1)) (or_true busy) (round_kept_back v n busy (Blocked (Lock ino holder)) r h (λ f. apart_ready (sym h.0 ∙ f)))
 
-nobody_works : (v : CoreView) (n : ℕ) → n ≡ length v.lines → CanGoOn v → RoundSoFar v n true → ⊥
-nobody_works v n all keeps r =
+nobody_works : (v : CoreView) (n : ℕ) → n ≡ length v.lines → CanGoOn v → AlwaysHasNextLine v.lines → RoundSoFar v n true → ⊥
+nobody_works v n all keeps follows r =
     let stuck = subst (AreStuck v) all r.stuck in
     let some = r.kept_back refl in
-    some.1.1 (all_finished v keeps stuck some.0 (omega (arith, some.1.0)))
+    some.1.1 (all_finished v keeps follows stuck some.0 (omega (arith, some.1.0)))
 
 -- a round so far, from a first state to the present one
 pub record Round {S : Type 0} (view : S → CoreView) (work : S → ℕ) (first now : S) (n : ℕ) (busy : Bool) : Type 0 where
@@ -302,8 +215,8 @@ round_goes_on view work first before now n busy (Blocked (After s k)) t less sam
 round_goes_on view work first before now n busy (Blocked (Lock ino holder)) t less same r = round_stuck view work first before now n busy (Blocked (Lock ino holder)) t t.1 (same (λ e. absurd (cc))) r
 
 -- a whole round in which some session was not finished did something
-pub round_works : {S : Type 0} (view : S → CoreView) (work : S → ℕ) (first now : S) (n : ℕ) → n ≡ length (view first).lines → CanGoOn (view first) → Round view work first now n true → work now < work first
-round_works view work first now n all keeps r = elim r.so_far [
+pub round_works : {S : Type 0} (view : S → CoreView) (work : S → ℕ) (first now : S) (n : ℕ) → n ≡ length (view first).lines → CanGoOn (view first) → AlwaysHasNextLine (view first).lines → Round view work first now n true → work now < work first
+round_works view work first now n all keeps follows r = elim r.so_far [
   | inl lt ↦ lt
-  | inr here ↦ absurd (nobody_works (view first) n all keeps (subst (λ s. RoundSoFar (view s) n true) here.0 here.1))
+  | inr here ↦ absurd (nobody_works (view first) n all keeps follows (subst (λ s. RoundSoFar (view s) n true) here.0 here.1))
 ]

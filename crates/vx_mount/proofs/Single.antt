@@ -1,18 +1,18 @@
 -- A core of one session with one line meets what is asked of a core.
-use Rattle.std.proofs.Common.{◌≡◌, ℕ, zero, suc, ◌+◌, ◌<◌, ◌≤◌, ◌==◌, cond, [], ◌∷◌, ◌++◌, length, Bool, true, false, Option, Some, None, refl, ap, subst, length-append, arith}
+use Rattle.std.proofs.Common.{◌≡◌, ℕ, zero, suc, ◌<◌, ◌≤◌, ◌==◌, cond, [], ◌∷◌, ◌++◌, length, Bool, true, false, Option, Some, None, refl, ap, subst, length-append, arith}
 use Rattle.std.proofs.lemmas.List.Elements.{All-cons}
 use Rattle.std.proofs.lemmas.Bool.Decides.{nat_tests}
+use Rattle.std.proofs.lemmas.List.Sums.{sum_by-cons}
 use Rattle.vx_base.specs.declared.call.Call.TheVariants as call
 use Rattle.vx_base.specs.declared.event.Event.TheVariants as event
 use Rattle.vx_base.specs.declared.reply.Reply.TheVariants as say
 use Rattle.vx_base.specs.Lines.{lines_of, line_after}
+use Rattle.vx_grammar.specs.Orders.{lines_in, CanFollow, IsOrder}
 use Rattle.vx_model.specs.Legal.{at_of}
 use Rattle.vx_mount.specs.declared.turns.Turn.TheVariants.{Turned, Finished}
 use Rattle.vx_mount.specs.Sessions.{begun, answered, is_stopped, standing, finished, ready}
 use Rattle.vx_mount.specs.Pieces.{is_stopping}
-use Rattle.vx_mount.specs.Orders.{lines_in, CanFollow, IsOrder}
 use Rattle.vx_mount.specs.Cores.{CanGoOn, AllFinished, TakesTurn, TakesUnmountTurn, has_ended}
-use Rattle.vx_mount.proofs.Going.{lines_in-more, lines_in-none}
 use Rattle.vx_mount.specs.Singles.{one_line, events_of, view_of}
 
 pub answers_line : (actor : ℕ) → actor < 1 → TakesTurn (view_of None) actor Turned (view_of (Some false))
@@ -83,13 +83,7 @@ ordered (x ∷ front) rest session e =
 whole : (session : ℕ) → lines_in session (0 ∷ []) ≡ length (lines_of one_line session)
 unfolding lines_in lines_of
 whole zero = refl
-whole (suc n) =
-    let apart : (0 == suc n) ≡ false = grind (arith, nat_tests) in
-    let more : lines_in (suc n) (0 ∷ []) ≡ lines_in (suc n) [] + cond {A = ℕ} (0 == suc n) 1 0 = lines_in-more (suc n) 0 [] in
-    let none : lines_in (suc n) [] ≡ 0 = lines_in-none (suc n) in
-    let no : cond {A = ℕ} (0 == suc n) 1 0 ≡ 0 = rw apart refl in
-    let long : length (lines_of one_line (suc n)) ≡ 0 = refl in
-    omega arith
+whole (suc n) = grind (arith, nat_tests, sum_by-cons (λ s. cond (s == suc n) 1 0) 0 [])
 
 pub goes_on : (unmounted : Option Bool) → CanGoOn (view_of unmounted)
 goes_on unmounted = record {

@@ -9,7 +9,8 @@ use Rattle.vx_mount.specs.declared.turns.Turn.{Turn}
 use Rattle.vx_mount.specs.declared.turns.Turn.TheVariants.{Turned, Finished, Blocked}
 use Rattle.vx_mount.specs.Sessions.{Standing, finished, waiting, standing}
 use Rattle.vx_mount.specs.Pieces.{is_ready, may_rest, IsTurn, Steps}
-use Rattle.vx_mount.specs.Schedules.{below, rounds}
+use Rattle.vx_grammar.specs.Orders.{below}
+use Rattle.vx_mount.specs.Schedules.{rounds}
 use Rattle.vx_mount.specs.Cores.{CoreView, TakesTurn, TakesTurns, AllFinished, IsDriven, UnmountsOn, AreUnmountEvents}
 
 -- a turn that does nothing

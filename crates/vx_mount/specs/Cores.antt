@@ -4,14 +4,21 @@ use Rattle.vx_base.specs.declared.call.Call.{Call}
 use Rattle.vx_base.specs.declared.call.Call.TheVariants as call
 use Rattle.vx_base.specs.declared.event.Event.{Event}
 use Rattle.vx_base.specs.declared.event.Event.TheVariants as event
+use Rattle.vx_base.specs.declared.mode.Logging.{Logging}
 use Rattle.vx_base.specs.declared.waits.WaitsFor.TheVariants.{Lock, After}
+use Rattle.vx_grammar.specs.Orders.{HasOrder}
 use Rattle.vx_mount.specs.declared.turns.Turn.{Turn}
 use Rattle.vx_mount.specs.declared.turns.Turn.TheVariants.{Turned, Finished, Blocked}
 use Rattle.vx_mount.specs.Sessions.{Standing, finished, waiting, ready, standing, is_stopped}
-use Rattle.vx_model.specs.Legal.{at_of}
+use Rattle.vx_model.specs.Legal.{World, at_of}
 use Rattle.vx_mount.specs.Pieces.{may_rest, IsTurn, Steps}
 use Rattle.vx_mount.specs.Schedules.{continued}
-use Rattle.vx_mount.specs.Orders.{HasOrder}
+
+-- where a history begins: the world, the failed writes of the device by then, and the mode
+pub record Opening : Type 0 where
+  pub world : World
+  pub write_faults : ℕ
+  pub logging : Logging
 
 pub record CoreView : Type 0 where
   -- the lines of each session

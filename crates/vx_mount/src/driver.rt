@@ -1,11 +1,11 @@
 //! Turns by a schedule, and the unmount.
 ghost use Rattle.std.specs.Prelude.{◌≡◌, ◌<◌, ◌≤◌, All, length, true, false};
-ghost use Rattle.vx_model.specs.Legal.{World};
-ghost use Rattle.vx_mount.specs.Cores.{AllFinished, TakesTurns, IsDriven, IsUnmounted};
-ghost use Rattle.vx_mount.specs.Schedules.{below};
+ghost use Rattle.vx_grammar.specs.Orders.{below};
+ghost use Rattle.vx_mount.specs.Cores.{Opening, AllFinished, TakesTurns, IsDriven, IsUnmounted};
 ghost use Rattle.vx_mount.specs.Runs.{TakesLines, AnswersLines};
 
 use crate::turns::{Turn, Turns};
+use vx_grammar::laws::order_law;
 
 /// Takes the turns of a schedule, which names sessions, and then those of all sessions round and round until all are finished
 /// (docs/SESSIONS.md). It returns. Unless the run was stopped, all lines of a run that begins with an empty history are answered then.
@@ -13,7 +13,7 @@ pub fn drive<T: Turns>(core: &mut T, schedule: &[u8])
     requires actors { All (λ actor. actor < length (T.view core.old).lines) schedule.now }
     requires sound { T.sound core.old }
     ensures sound { T.sound core.new }
-    ensures kept { (o : World) → T.kept o core.old → T.kept o core.new }
+    ensures kept { (o : Opening) → T.kept o core.old → T.kept o core.new }
     ensures driven { IsDriven (T.view core.old) schedule.now (T.view core.new) }
     ensures answers { TakesLines (T.view core.old).lines (T.view core.old).history → AnswersLines (T.view core.old).lines (T.view core.new).history }
 {
@@ -26,7 +26,7 @@ fn take_turns<T: Turns>(core: &mut T, actors: &[u8])
     requires actors { All (λ actor. actor < length (T.view core.old).lines) actors.now }
     requires sound { T.sound core.old }
     ensures sound { T.sound core.new }
-    ensures kept { (o : World) → T.kept o core.old → T.kept o core.new }
+    ensures kept { (o : Opening) → T.kept o core.old → T.kept o core.new }
     ensures turns { TakesTurns (T.view core.old) actors.now (T.view core.new) }
 {
     'schedule: for actor in actors {
@@ -38,12 +38,13 @@ fn take_turns<T: Turns>(core: &mut T, actors: &[u8])
 fn turn_round<T: Turns>(core: &mut T) -> bool
     requires { T.sound core.old }
     ensures sound { T.sound core.new }
-    ensures kept { (o : World) → T.kept o core.old → T.kept o core.new }
+    ensures kept { (o : Opening) → T.kept o core.old → T.kept o core.new }
     ensures round { TakesTurns (T.view core.old) (below (length (T.view core.old).lines)) (T.view core.new) }
     ensures less { result ≡ true → T.work core.new < T.work core.old }
     ensures ended { result ≡ false → AllFinished (T.view core.new) }
 {
     core.facts();
+    order_law();
     let mut busy = false;
     'round: for actor in 0..core.sessions() {
         let answer = core.turn(actor);
@@ -57,7 +58,7 @@ pub fn unmount<T: Turns>(core: &mut T)
     requires finished { AllFinished (T.view core.old) }
     requires sound { T.sound core.old }
     ensures sound { T.sound core.new }
-    ensures kept { (o : World) → T.kept o core.old → T.kept o core.new }
+    ensures kept { (o : Opening) → T.kept o core.old → T.kept o core.new }
     ensures unmounted { IsUnmounted (T.view core.old) (T.view core.new) }
     ensures answers { AnswersLines (T.view core.old).lines (T.view core.old).history → AnswersLines (T.view core.old).lines (T.view core.new).history }
 {
@@ -69,7 +70,7 @@ fn take_unmount_turns<T: Turns>(core: &mut T)
     requires finished { AllFinished (T.view core.old) }
     requires sound { T.sound core.old }
     ensures sound { T.sound core.new }
-    ensures kept { (o : World) → T.kept o core.old → T.kept o core.new }
+    ensures kept { (o : Opening) → T.kept o core.old → T.kept o core.new }
     ensures unmounted { IsUnmounted (T.view core.old) (T.view core.new) }
 {
     'turns: while matches!(core.unmount_turn(), Turn::Turned) {}

@@ -27,8 +27,7 @@ impl Turn {
 /// A core whose sessions take turns, by the rules of docs/SESSIONS.md.
 pub trait Turns {
     ghost use Rattle.std.specs.Prelude.{◌≡◌, ◌≢◌, ◌<◌, ℕ, length};
-    ghost use Rattle.vx_model.specs.Legal.{World};
-    ghost use Rattle.vx_mount.specs.Cores.{CoreView, CanGoOn, TakesTurn, TakesUnmountTurn, AllFinished};
+    ghost use Rattle.vx_mount.specs.Cores.{CoreView, Opening, CanGoOn, TakesTurn, TakesUnmountTurn, AllFinished};
     ghost use Rattle.vx_mount.specs.declared.turns.Turn.TheVariants.{Turned};
 
     /// What contracts see of a core.
@@ -40,8 +39,8 @@ pub trait Turns {
     /// What a core needs for its next turn, and has again behind each.
     ghost sound: { Self → Type 0 };
 
-    /// What each turn keeps, for every World in which the history may have begun.
-    ghost kept: { World → Self → Type 0 };
+    /// What each turn keeps, wherever the history may have begun.
+    ghost kept: { Opening → Self → Type 0 };
 
     /// The number of sessions.
     fn sessions(&self) -> u8
@@ -53,7 +52,7 @@ pub trait Turns {
         requires actor { actor < length (view self.old).lines }
         requires sound { sound self.old }
         ensures sound { sound self.new }
-        ensures kept { (o : World) → kept o self.old → kept o self.new }
+        ensures kept { (o : Opening) → kept o self.old → kept o self.new }
         ensures turn { TakesTurn (view self.old) actor result (view self.new) }
         ensures less { result ≡ Turned → work self.new < work self.old }
         ensures idle { result ≢ Turned → self.new ≡ self.old };
@@ -64,7 +63,7 @@ pub trait Turns {
         requires finished { AllFinished (view self.old) }
         requires sound { sound self.old }
         ensures sound { sound self.new }
-        ensures kept { (o : World) → kept o self.old → kept o self.new }
+        ensures kept { (o : Opening) → kept o self.old → kept o self.new }
         ensures turn { TakesUnmountTurn (view self.old) result (view self.new) }
         ensures less { result ≡ Turned → work self.new < work self.old };
 

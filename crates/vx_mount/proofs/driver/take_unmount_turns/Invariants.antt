@@ -1,5 +1,4 @@
-use Rattle.vx_model.specs.Legal.{World}
-use Rattle.vx_mount.specs.Cores.{UnmountsOn}
+use Rattle.vx_mount.specs.Cores.{UnmountsOn, Opening}
 use Rattle.vx_mount.proofs.driver.take_unmount_turns.Given as goal
 
 -- the unmount's turns so far
@@ -7,7 +6,7 @@ abbrev pub invariant-turns : goal.invariant-turns
 invariant-turns g l = record {
   on : UnmountsOn (g.T.Turns.view l.initial.core) (g.T.Turns.view l.core);
   sound : g.T.Turns.sound l.core;
-  kept : (o : World) → g.T.Turns.kept o l.initial.core → g.T.Turns.kept o l.core;
+  kept : (o : Opening) → g.T.Turns.kept o l.initial.core → g.T.Turns.kept o l.core;
 }
 
 abbrev pub decreases-turns : goal.decreases-turns

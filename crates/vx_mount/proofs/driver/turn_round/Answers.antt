@@ -1,6 +1,6 @@
 use Rattle.std.proofs.Common.{◌≡◌, not, ◌||◌, ◌+◌, length, sym, ap, subst, arith}
 use Rattle.vx_mount.specs.Cores.{TakesTurns}
-use Rattle.vx_mount.specs.Schedules.{below}
+use Rattle.vx_grammar.specs.Orders.{below}
 use Rattle.vx_mount.proofs.Going.{Round, round_begins, round_goes_on, round_works}
 use Rattle.vx_mount.proofs.driver.turn_round.Goals as goal
 
@@ -26,6 +26,7 @@ pub returns-clause-less : goal.returns-clause-less
 returns-clause-less g c = λ e.
     let all : c.round.actor ≡ length (g.T.Turns.view c.args.core.now).lines = omega (arith, c.sessions-actor-end.ensures) in
     round_works g.T.Turns.view g.T.Turns.work c.args.core.now c.round.core c.round.actor all c.round.invariant.keeps
+    (c.order_law.ensures (g.T.Turns.view c.args.core.now).lines c.round.invariant.keeps.order)
     (subst (λ b. Round g.T.Turns.view g.T.Turns.work c.args.core.now c.round.core c.round.actor b) e c.round.invariant.round)
 
 pub returns-clause-ended : goal.returns-clause-ended
