@@ -1,6 +1,5 @@
 -- A call whose reply is known is right for what is noted next.
-use Rattle.std.proofs.Common.{◌≡◌, ◌⊎◌, ℕ, ◌+◌, ◌≤◌, Bool, true, false, cond, List, [], length, Option, Some, None, Result, Ok, Err, refl, sym, ap, subst, ◌∙◌, arith, inl, inr}
-use Rattle.std.specs.Prelude.{IfOk, max}
+use Rattle.std.proofs.Common.{◌≡◌, ◌⊎◌, ℕ, ◌≤◌, Bool, true, false, cond, length, Option, Some, None, refl, sym, ap, subst, ◌∙◌, arith, inl, inr}
 use Rattle.vx_base.specs.declared.call.Call.{Call}
 use Rattle.vx_base.specs.declared.call.Call.TheVariants as call
 use Rattle.vx_base.specs.declared.refusal.Refusal.{Refusal}
@@ -8,7 +7,6 @@ use Rattle.vx_base.specs.declared.refusal.Refusal.TheVariants as no
 use Rattle.vx_base.specs.declared.reply.Reply.{Reply}
 use Rattle.vx_base.specs.declared.reply.Reply.TheVariants as say
 use Rattle.vx_dev.specs.Tape.{State as Device}
-use Rattle.vx_model.specs.LaidOut.{IsLaidOut}
 use Rattle.vx_model.specs.Legal.{World, IfThere, after_all, is_any_time, is_fault, is_no_space, state_after_step}
 use Rattle.vx_model.specs.Removing.{fine}
 use Rattle.vx_model.specs.State.{State, Done}
@@ -79,6 +77,7 @@ module _ (o : World) (d : Device) (m : Mount) (at : IsAt o d m) (c : Call) where
     transaction = at.transaction;
     enabled = at.enabled;
     broken = at.broken;
+    left = at.left;
     new = present o m.kernel;
     meta = at.meta;
     laid_out = at.run.mounted_now.laid_out;
@@ -113,6 +112,7 @@ kept_at o d m at meta t is none = record {
   transaction = at.transaction;
   enabled = at.enabled;
   broken = at.broken;
+  left = at.left;
 }
 
 -- ---- a call that ran
@@ -160,6 +160,7 @@ module _ (o : World) (d : Device) (m : Mount) (at : IsAt o d m) (c : Call) (repl
     transaction = at.transaction;
     enabled = at.enabled;
     broken = at.broken;
+    left = at.left;
     new = ran.0.state;
     meta = ran.1.1.gone.state;
     laid_out = ran.1.1.gone.laid_out;

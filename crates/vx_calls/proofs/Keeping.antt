@@ -1,25 +1,21 @@
 -- What every step of a mount keeps.
 use Rattle.std.proofs.Common.{◌≡◌, ◌≢◌, ◌⊎◌, ℕ, Bool, true, false, cond, List, [], ◌∷◌, ◌++◌, length, Option, Some, None, Vec, Global, refl, sym, ap, subst, ◌∙◌, inl, inr}
-use Rattle.std.specs.Prelude.{◌≤◌, ◌==◌, IsSome}
+use Rattle.std.specs.Prelude.{◌==◌, IsSome}
 use Rattle.vx_base.specs.declared.event.Event.{Event}
-use Rattle.vx_base.specs.declared.event.Event.TheVariants as event
 use Rattle.vx_dev.specs.Tape.{State as Device}
 use Rattle.vx_dev.specs.Moments.{Told}
 use Rattle.vx_log.specs.Logs.{after_stage, is_body_out}
-use Rattle.vx_model.specs.EditLaws.{EditLaws}
-use Rattle.vx_model.specs.Legal.{World, in_use, after, after_all}
-use Rattle.vx_model.specs.State.{State}
-use Rattle.vx_model.specs.Touching.{untouched}
+use Rattle.vx_model.specs.Legal.{World, in_use, unmounted, after, after_all}
 use Rattle.vx_stage.specs.Growths.{IsBusy, IsInUse}
-use Rattle.vx_stage.specs.Kernels.{IsFit, HasRun, IsLive, JobFits, present}
+use Rattle.vx_stage.specs.Kernels.{IsFit, HasRun, IsLive, present}
 use Rattle.vx_layout.specs.LogForms.{AfterImage}
-use Rattle.vx_stage.specs.Staged.{staged, homes_from, homes_to}
+use Rattle.vx_stage.specs.Staged.{staged, homes_from}
 use Rattle.vx_stage.specs.declared.kernel.Job.{Job}
 use Rattle.vx_stage.specs.declared.kernel.Job.TheVariants.{Idle, Body, BodyOut, Head, HeadOut, Homes, HomesOut, Tail, TailOut, Leave, LeaveOut, Left, Broken}
 use Rattle.vx_stage.specs.declared.kernel.Kernel.{Kernel}
 use Rattle.vx_txn.specs.Metas.{IsStateOf}
 use Rattle.vx_txn.specs.declared.meta.Meta.{Meta}
-use Rattle.vx_calls.specs.Mounts.{IsAt, IsUsed}
+use Rattle.vx_calls.specs.Mounts.{IsAt}
 use Rattle.vx_calls.specs.declared.mount.Mount.{Mount}
 
 pub after_push : (w : World) (h : List Event) (e : Event) → after_all w (h ++ e ∷ []) ≡ after (after_all w h) e
@@ -48,6 +44,22 @@ staged_whole k LeaveOut is whole = λ e. whole (sym is ∙ e)
 staged_whole k Left is whole = λ e. whole (sym is ∙ e)
 staged_whole k Broken is whole = λ e. whole refl
 
+-- ... and does not end the leaving
+staged_left : (k : Kernel) (j : Job) → k.job ≡ j → (staged k j).job ≡ Left → k.job ≡ Left
+staged_left k Body is = if_job (λ x. x ≡ Left → k.job ≡ Left) (is_body_out (after_stage k.log.closing)) BodyOut Body (λ e. absurd cc) (λ e. absurd cc)
+staged_left k BodyOut is = λ e. absurd cc
+staged_left k Head is = λ e. absurd cc
+staged_left k HeadOut is = λ e. absurd cc
+staged_left k (Homes put) is = if_job (λ x. x ≡ Left → k.job ≡ Left) _ HomesOut (Homes _) (λ e. absurd cc) (λ e. absurd cc)
+staged_left k HomesOut is = λ e. absurd cc
+staged_left k Tail is = λ e. absurd cc
+staged_left k TailOut is = λ e. absurd cc
+staged_left k Leave is = λ e. absurd cc
+staged_left k Idle is = λ e. e
+staged_left k LeaveOut is = λ e. e
+staged_left k Left is = λ e. e
+staged_left k Broken is = λ e. e
+
 -- ... and leaves nothing where the mount is not being left
 pub staged_free : (k : Kernel) (j : Job) → k.job ≡ j → (IsBusy j → ⊥) → IsBusy (staged k j).job → ⊥
 staged_free k Body is free = if_job (λ x. IsBusy x → ⊥) (is_body_out (after_stage k.log.closing)) BodyOut Body (λ e. e) (λ e. e)
@@ -66,11 +78,22 @@ staged_free k Broken is free = λ e. subst IsBusy is e
 
 -- ---- the mount
 
+-- no device failed, and the file system is not left
+abbrev pub IsWhole : Job → Type 0
+IsWhole j = (j ≢ Broken) × (j ≢ Left)
+
+-- a mount that is in use is not left
+pub in_use_still : (o : World) (k : Kernel) → IsInUse o k → (after_all o k.history.items).phase ≢ unmounted
+in_use_still o k used left = let wrong : in_use ≡ unmounted = sym used ∙ left in cc
+
+pub not_left : (o : World) (d : Device) (m : Mount) → IsAt o d m → IsInUse o m.kernel → m.kernel.job ≢ Left
+not_left o d m at used left = in_use_still o m.kernel used (at.left left)
+
 module _ (o : World) (a b : Device) (m : Mount) (at : IsAt o a m) where
   -- another kernel with the same history
   pub with_kernel : (k : Kernel) (disabled : Option ℕ) → k.history ≡ m.kernel.history → HasRun o b k → Told b (IsLive o k) → IsFit b k → (disabled ≡ None → k.job ≢ Broken) → (IsSome disabled → k.job ≡ Broken)
-      → IsAt o b (record m { kernel = k; disabled = disabled })
-  with_kernel k disabled same run live fit enabled broken = record {
+      → (k.job ≡ Left → m.kernel.job ≡ Left) → IsAt o b (record m { kernel = k; disabled = disabled })
+  with_kernel k disabled same run live fit enabled broken left = record {
     run = run;
     live = live;
     fit = fit;
@@ -79,6 +102,7 @@ module _ (o : World) (a b : Device) (m : Mount) (at : IsAt o a m) where
     transaction = at.transaction;
     enabled = enabled;
     broken = broken;
+    left = λ is. subst (λ (es : List Event). (after_all o es).phase ≡ unmounted) (sym (ap (λ (v : _). v.items) same)) (at.left (left is));
   }
 
   -- ---- a stage
@@ -86,16 +110,17 @@ module _ (o : World) (a b : Device) (m : Mount) (at : IsAt o a m) where
   pub staged_at : m.disabled ≡ None → (k : Kernel) → k ≡ staged m.kernel m.kernel.job → k.history ≡ m.kernel.history → HasRun o b k → Told b (IsLive o k) → IsFit b k → IsAt o b (record m { kernel = k })
   staged_at enabled k done same run live fit = with_kernel k m.disabled same run live fit
       (λ none. subst (λ (x : Kernel). x.job ≢ Broken) (sym done) (staged_whole m.kernel m.kernel.job refl (at.enabled enabled))) (λ some. absurd (none_some enabled some))
+      (λ left. staged_left m.kernel m.kernel.job refl (subst (λ (x : Kernel). x.job ≡ Left) done left))
     where
       none_some : {A : Type 0} {x : Option A} → x ≡ None → IsSome x → ⊥
       none_some none some = cc
 
   pub failed_at : (k : Kernel) (faults : ℕ) → k.job ≡ Broken → k.history ≡ m.kernel.history → HasRun o b k → Told b (IsLive o k) → IsFit b k → IsAt o b (record m { kernel = k; disabled = Some faults })
-  failed_at k faults job same run live fit = with_kernel k (Some faults) same run live fit (λ none. absurd cc) (λ some. job)
+  failed_at k faults job same run live fit = with_kernel k (Some faults) same run live fit (λ none. absurd cc) (λ some. job) (λ left. absurd (let wrong : ◌≡◌ {A = Job} Broken Left = sym job ∙ left in cc))
 
   -- another job begins
-  pub wanted_at : (k : Kernel) → m.kernel.job ≡ Idle → k.job ≢ Broken → k.history ≡ m.kernel.history → HasRun o b k → Told b (IsLive o k) → IsFit b k → IsAt o b (record m { kernel = k })
-  wanted_at k idle whole same run live fit = with_kernel k m.disabled same run live fit (λ none. whole) (λ some. absurd (let broken = at.broken some in let wrong : ◌≡◌ {A = Job} Idle Broken = sym idle ∙ broken in cc))
+  pub wanted_at : (k : Kernel) → m.kernel.job ≡ Idle → IsWhole k.job → k.history ≡ m.kernel.history → HasRun o b k → Told b (IsLive o k) → IsFit b k → IsAt o b (record m { kernel = k })
+  wanted_at k idle whole same run live fit = with_kernel k m.disabled same run live fit (λ none. whole.0) (λ some. absurd (let broken = at.broken some in let wrong : ◌≡◌ {A = Job} Idle Broken = sym idle ∙ broken in cc)) (λ left. absurd (whole.1 left))
 
 -- ---- an event more
 
@@ -103,8 +128,9 @@ module _ (o : World) (d e : Device) (m : Mount) (at : IsAt o d m) (k : Kernel) (
   pub present_is : present o k ≡ (after (after_all o m.kernel.history.items) x).state
   present_is = ap (λ (es : List Event). (after_all o es).state) items ∙ ap (λ (w : World). w.state) (after_push o m.kernel.history.items x)
 
-  pub pushed_at : (meta : Meta) → (m.disabled ≡ None → k.job ≢ Broken) → (IsSome m.disabled → k.job ≡ Broken) → IsStateOf meta (after (after_all o m.kernel.history.items) x).state → IsAt o e (record m { kernel = k; meta = meta })
-  pushed_at meta enabled broken is = record {
+  pub pushed_at : (meta : Meta) → (m.disabled ≡ None → k.job ≢ Broken) → (IsSome m.disabled → k.job ≡ Broken) → (k.job ≡ Left → (after (after_all o m.kernel.history.items) x).phase ≡ unmounted)
+      → IsStateOf meta (after (after_all o m.kernel.history.items) x).state → IsAt o e (record m { kernel = k; meta = meta })
+  pushed_at meta enabled broken left is = record {
     run = run;
     live = live;
     fit = fit;
@@ -113,17 +139,18 @@ module _ (o : World) (d e : Device) (m : Mount) (at : IsAt o d m) (k : Kernel) (
     transaction = at.transaction;
     enabled = enabled;
     broken = broken;
+    left = λ here. subst (λ (w : World). w.phase ≡ unmounted) (sym (ap (after_all o) items ∙ after_push o m.kernel.history.items x)) (left here);
   }
 
-  pub same_job : k.job ≡ m.kernel.job → (meta : Meta) → IsStateOf meta (after (after_all o m.kernel.history.items) x).state → IsAt o e (record m { kernel = k; meta = meta })
-  same_job job meta is = pushed_at meta (λ none broken. at.enabled none (sym job ∙ broken)) (λ some. job ∙ at.broken some) is
+  pub same_job : k.job ≡ m.kernel.job → (after_all o m.kernel.history.items).phase ≢ unmounted → (meta : Meta) → IsStateOf meta (after (after_all o m.kernel.history.items) x).state → IsAt o e (record m { kernel = k; meta = meta })
+  same_job job still meta is = pushed_at meta (λ none broken. at.enabled none (sym job ∙ broken)) (λ some. job ∙ at.broken some) (λ left. absurd (still (at.left (sym job ∙ left)))) is
 
 -- what begins is whole
-pub starts_whole : (homes : List AfterImage) (j : Job) → (j ≡ Idle) ⊎ ((j ≡ Body) ⊎ ((j ≡ homes_from homes) ⊎ (j ≡ Leave))) → j ≢ Broken
-starts_whole homes j (inl idle) = λ e. let wrong : ◌≡◌ {A = Job} Idle Broken = sym idle ∙ e in cc
-starts_whole homes j (inr (inl body)) = λ e. let wrong : ◌≡◌ {A = Job} Body Broken = sym body ∙ e in cc
-starts_whole homes j (inr (inr (inl from))) = λ e. if_job (λ x. x ≢ Broken) (0 == length homes) HomesOut (Homes 0) (λ h. cc) (λ h. cc) (sym from ∙ e)
-starts_whole homes j (inr (inr (inr leave))) = λ e. let wrong : ◌≡◌ {A = Job} Leave Broken = sym leave ∙ e in cc
+pub starts_whole : (homes : List AfterImage) (j : Job) → (j ≡ Idle) ⊎ ((j ≡ Body) ⊎ ((j ≡ homes_from homes) ⊎ (j ≡ Leave))) → IsWhole j
+starts_whole homes j (inl idle) = subst IsWhole (sym idle) ((λ e. cc), (λ e. cc))
+starts_whole homes j (inr (inl body)) = subst IsWhole (sym body) ((λ e. cc), (λ e. cc))
+starts_whole homes j (inr (inr (inl from))) = subst IsWhole (sym from) (if_job IsWhole (0 == length homes) HomesOut (Homes 0) ((λ e. cc), (λ e. cc)) ((λ e. cc), (λ e. cc)))
+starts_whole homes j (inr (inr (inr leave))) = subst IsWhole (sym leave) ((λ e. cc), (λ e. cc))
 
 -- where a wish is answered so
 pub wished : (b : Bool) (P : Job → Type 0) (j : Job) → (b ≡ true → P j) → (b ≡ false → P j) → P j

@@ -1,5 +1,5 @@
 -- What is noted of a call.
-use Rattle.std.proofs.Common.{◌≡◌, ◌⊎◌, ℕ, ◌+◌, ◌*◌, ◌<◌, ◌≤◌, Bool, true, false, List, [], ◌∷◌, ◌++◌, length, Option, Some, None, refl, sym, ap, subst, ◌∙◌, arith, inl, inr}
+use Rattle.std.proofs.Common.{◌≡◌, ◌⊎◌, ℕ, ◌+◌, ◌*◌, ◌<◌, ◌≤◌, true, List, [], ◌∷◌, ◌++◌, Some, sym, ap, subst, ◌∙◌, arith}
 use Rattle.std.specs.Prelude.{All, IsSome}
 use Rattle.std.specs.List.{AllByRecursion}
 use Rattle.vx_base.specs.declared.call.Call.{Call}
@@ -16,8 +16,8 @@ use Rattle.vx_model.specs.EditLaws.{EditLaws}
 use Rattle.vx_model.specs.Images.{content_at, IsBatch}
 use Rattle.vx_model.specs.Layout.{volume}
 use Rattle.vx_model.specs.LaidOut.{IsLaidOut}
-use Rattle.vx_model.specs.Legal.{World, DoAllowed, IfThere, after_all, is_fault}
-use Rattle.vx_model.specs.State.{State, Done}
+use Rattle.vx_model.specs.Legal.{World, IfThere, after_all, is_fault}
+use Rattle.vx_model.specs.State.{State}
 use Rattle.vx_model.specs.Step.{step}
 use Rattle.vx_model.specs.Touching.{Touched, HasTouched, untouched}
 use Rattle.vx_stage.specs.Growths.{MayDo, called_state}
@@ -27,7 +27,7 @@ use Rattle.vx_txn.specs.Metas.{IsStateOf, Stands}
 use Rattle.vx_calls.specs.Calls.{HasReplied}
 use Rattle.vx_calls.specs.Mounts.{IsAt, MayBegin}
 use Rattle.vx_calls.specs.declared.mount.Mount.{Mount}
-use Rattle.vx_calls.proofs.Keeping.{after_push}
+use Rattle.vx_calls.proofs.Keeping.{after_push, in_use_still}
 
 module _ (o : World) (d : Device) (m : Mount) (c : Call) (reply : Reply) (r : HasReplied o d m c reply) where
   pub stands : Stands m.meta r.new
@@ -96,4 +96,5 @@ module _ (o : World) (d : Device) (m : Mount) (c : Call) (reply : Reply) (r : Ha
         transaction = empty;
         enabled = λ is broken. r.enabled (sym (ap (λ (x : Mount). x.disabled) same) ∙ is) (sym (ap (λ (x : Kernel). x.job) kernel_is) ∙ sym job ∙ broken);
         broken = λ some. job ∙ ap (λ (x : Kernel). x.job) kernel_is ∙ r.broken (subst (λ (x : Mount). IsSome x.disabled) same some);
+        left = λ is. absurd (in_use_still o m.kernel may.mounted (r.left (sym (ap (λ (x : Kernel). x.job) kernel_is) ∙ sym job ∙ is)));
       }

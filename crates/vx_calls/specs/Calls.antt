@@ -2,24 +2,24 @@
 use Rattle.std.specs.Prelude.{◌≡◌, ◌≢◌, ◌⊎◌, ◌+◌, ◌≤◌, ℕ, Bool, true, false, List, [], ◌∷◌, ◌++◌, length, set, Option, None, Some, IsSome}
 use Rattle.vx_base.specs.declared.call.Call.{Call}
 use Rattle.vx_base.specs.declared.call.Call.TheVariants as call
-use Rattle.vx_base.specs.declared.event.Event.{Event}
 use Rattle.vx_base.specs.declared.event.Event.TheVariants as event
 use Rattle.vx_base.specs.declared.refusal.Refusal.{Refusal}
 use Rattle.vx_base.specs.declared.refusal.Refusal.TheVariants as no
 use Rattle.vx_base.specs.declared.reply.Reply.{Reply}
 use Rattle.vx_base.specs.declared.reply.Reply.TheVariants as say
+use Rattle.vx_base.specs.Faults.{Rose}
 use Rattle.vx_base.specs.Lines.{lines_of, line_after}
 use Rattle.vx_dev.specs.Tape as dev
 use Rattle.vx_dev.specs.Moments.{Told}
-use Rattle.vx_model.specs.Allowed.{has_front, is_refusal}
+use Rattle.vx_model.specs.Allowed.{has_front}
 use Rattle.vx_model.specs.LaidOut.{IsLaidOut}
-use Rattle.vx_model.specs.Legal.{World, IfThere, after_all, is_fault, is_no_space}
+use Rattle.vx_model.specs.Legal.{World, IfThere, unmounted, after_all, is_fault, is_no_space}
 use Rattle.vx_model.specs.State.{State}
 use Rattle.vx_model.specs.Step.{step, has_step}
-use Rattle.vx_model.specs.Touching.{Touched, IsTouched, untouched}
+use Rattle.vx_model.specs.Touching.{IsTouched, untouched}
 use Rattle.vx_stage.specs.Growths.{called_state}
 use Rattle.vx_stage.specs.Kernels.{IsFit, HasRun, IsLive, present}
-use Rattle.vx_stage.specs.declared.kernel.Job.TheVariants.{Broken}
+use Rattle.vx_stage.specs.declared.kernel.Job.TheVariants.{Left, Broken}
 use Rattle.vx_txn.specs.Calls.{HasMode, most}
 use Rattle.vx_txn.specs.Metas.{IsStateOf}
 use Rattle.vx_calls.specs.declared.mount.Mount.{Mount}
@@ -54,6 +54,13 @@ TellsFault None None write_faults answer = IsFaultless answer
 TellsFault None (Some faults) write_faults answer = (faults ≡ write_faults) × (answer ≡ say.Refused no.WriteFault)
 TellsFault (Some faults) now write_faults answer = (now ≡ Some faults) × (answer ≡ say.Refused (no.Disabled faults))
 
+-- What a turn does to the device's count of failed writes: where none has failed in this mount and none does, it stays; where one
+-- fails now it has risen, and the mount keeps it; and where one had failed before, nothing is done on the device.
+abbrev pub HasFailed : (before now : Option ℕ) → (old new : dev.State) → Type 0
+HasFailed None None old new = new.write_faults ≡ old.write_faults
+HasFailed None (Some faults) old new = Rose old.write_faults new.write_faults × (faults ≡ new.write_faults)
+HasFailed (Some faults) now old new = (now ≡ Some faults) × (new ≡ old)
+
 -- ---- a call whose reply is known, and that is not noted yet
 
 pub record HasReplied (o : World) (d : dev.State) (m : Mount) (c : Call) (reply : Reply) : Type 0 where
@@ -63,6 +70,7 @@ pub record HasReplied (o : World) (d : dev.State) (m : Mount) (c : Call) (reply 
   pub transaction : m.transaction ≡ []
   pub enabled : m.disabled ≡ None → m.kernel.job ≢ Broken
   pub broken : IsSome m.disabled → m.kernel.job ≡ Broken
+  pub left : m.kernel.job ≡ Left → (after_all o m.kernel.history.items).phase ≡ unmounted
   -- the state that it leads to
   pub new : State
   pub meta : IsStateOf m.meta new

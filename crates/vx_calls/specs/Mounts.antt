@@ -1,10 +1,10 @@
 -- What a mount keeps in memory, with its device.
-use Rattle.std.specs.Prelude.{◌≡◌, ◌≢◌, ◌⊎◌, ◌<◌, ◌≤◌, ℕ, Bool, true, List, [], ◌∷◌, ◌++◌, length, None, Some, IsSome, if◌then◌else◌}
+use Rattle.std.specs.Prelude.{◌≡◌, ◌≢◌, ◌<◌, ℕ, Bool, true, false, List, [], ◌∷◌, ◌++◌, None, IsSome, if◌then◌else◌}
 use Rattle.vx_base.specs.declared.event.Event.{Event}
 use Rattle.vx_base.specs.declared.event.Event.TheVariants as event
 use Rattle.vx_dev.specs.Tape as dev
 use Rattle.vx_dev.specs.Moments.{Told}
-use Rattle.vx_model.specs.Legal.{World, after_all, is_idle}
+use Rattle.vx_model.specs.Legal.{World, unmounted, after_all, is_idle}
 use Rattle.vx_model.specs.Touching.{untouched}
 use Rattle.vx_stage.specs.Growths.{IsInUse}
 use Rattle.vx_stage.specs.Kernels.{IsFit, HasRun, IsLive, present}
@@ -25,6 +25,8 @@ pub record IsAt (o : World) (d : dev.State) (m : Mount) : Type 0 where
   -- the mount is disabled exactly where a write or barrier failed
   pub enabled : m.disabled ≡ None → m.kernel.job ≢ Broken
   pub broken : IsSome m.disabled → m.kernel.job ≡ Broken
+  -- a file system that is left is not in use
+  pub left : m.kernel.job ≡ Left → (after_all o m.kernel.history.items).phase ≡ unmounted
 
 -- there is such an opening, and from it on the mount is in use
 pub record IsUsed (d : dev.State) (m : Mount) : Type 0 where
@@ -48,6 +50,7 @@ pub record Released (old new : List Event) (at : ℕ) : Type 0 where
   pub upto : ℕ
   pub is : new ≡ old ++ releases released at upto
 
--- ... or by Unmounted, with which the file system is left
-abbrev pub LeavesOn : (old new : Kernel) (at : ℕ) → Type 0
-LeavesOn old new at = Released old.history.items new.history.items at ⊎ ((new.history.items ≡ old.history.items ++ event.Unmounted at ∷ []) × (new.job ≡ Left))
+-- ... or by Unmounted, where the file system is left with it
+abbrev pub LeavesOn : Bool → (old new : Kernel) (at : ℕ) → Type 0
+LeavesOn false old new at = Released old.history.items new.history.items at
+LeavesOn true old new at = (new.history.items ≡ old.history.items ++ event.Unmounted at ∷ []) × (new.job ≡ Left)

@@ -35,8 +35,9 @@ impl Asked {
 }
 
 impl Mount {
-    ghost use Rattle.vx_calls.specs.Calls.{HasAsked, IsAsked};
+    ghost use Rattle.vx_calls.specs.Calls.{HasAsked, HasFailed, IsAsked};
     ghost use Rattle.vx_calls.specs.Mounts.{IsAt, IsUsed};
+    ghost use Rattle.vx_calls.specs.Potentials.{waits, AsksOf};
 
     /// Does a call in memory. Where the open batch may have no room for it, that one is committed first; where it is short of blocks,
     /// those that wait are released first.
@@ -52,6 +53,10 @@ impl Mount {
         ensures capacity { vec_capacity self.old.kernel.history ≤ vec_capacity self.new.kernel.history }
         ensures few { (D.state dev.new).count ≤ (D.state dev.old).count + 8 }
         ensures later { (D.state dev.old).count ≤ (D.state dev.new).count }
+        ensures logging { self.new.kernel.logging ≡ self.old.kernel.logging }
+        ensures first { self.new.kernel.first ≡ self.old.kernel.first }
+        ensures failed { HasFailed self.old.disabled self.new.disabled (D.state dev.old) (D.state dev.new) }
+        ensures asks { AsksOf (D.state dev.old) (D.state dev.new) self.old self.new result }
     {
         if let Some(write_faults) = self.disabled {
             return Asked::refused(&Refusal::Disabled { write_faults });
@@ -80,6 +85,10 @@ impl Mount {
         ensures capacity { vec_capacity self.old.kernel.history ≤ vec_capacity self.new.kernel.history }
         ensures few { (D.state dev.new).count ≤ (D.state dev.old).count + 8 }
         ensures later { (D.state dev.old).count ≤ (D.state dev.new).count }
+        ensures logging { self.new.kernel.logging ≡ self.old.kernel.logging }
+        ensures first { self.new.kernel.first ≡ self.old.kernel.first }
+        ensures failed { HasFailed self.old.disabled self.new.disabled (D.state dev.old) (D.state dev.new) }
+        ensures asks { AsksOf (D.state dev.old) (D.state dev.new) self.old self.new result }
     {
         // The proof rests on these laws; nothing runs here.
         refused_leaves();
@@ -101,6 +110,7 @@ impl Mount {
         requires used { IsUsed (D.state dev.old) self.old }
         requires free { IsBusy self.old.kernel.job → ⊥ }
         requires enabled { self.old.disabled ≡ None }
+        requires some { 0 < length self.old.kernel.gathered }
         requires room { vec_len self.old.kernel.history < vec_capacity self.old.kernel.history }
         ensures asked { HasAsked (D.state dev.new) self.old self.new result }
         ensures at { (o : World) → IsAt o (D.state dev.old) self.old → IsInUse o self.old.kernel → (c : Call) → has_step c ≡ true → IsAsked o (D.state dev.new) self.new c result }
@@ -108,6 +118,10 @@ impl Mount {
         ensures capacity { vec_capacity self.old.kernel.history ≤ vec_capacity self.new.kernel.history }
         ensures few { (D.state dev.new).count ≤ (D.state dev.old).count + 8 }
         ensures later { (D.state dev.old).count ≤ (D.state dev.new).count }
+        ensures logging { self.new.kernel.logging ≡ self.old.kernel.logging }
+        ensures first { self.new.kernel.first ≡ self.old.kernel.first }
+        ensures failed { HasFailed self.old.disabled self.new.disabled (D.state dev.old) (D.state dev.new) }
+        ensures asks { AsksOf (D.state dev.old) (D.state dev.new) self.old self.new result }
     {
         self.begin_commit(dev);
         match self.advance(dev) {
@@ -121,6 +135,7 @@ impl Mount {
         requires used { IsUsed (D.state dev.old) self.old }
         requires free { IsBusy self.old.kernel.job → ⊥ }
         requires enabled { self.old.disabled ≡ None }
+        requires waits { waits self.old.meta ≡ 1 }
         requires room { vec_len self.old.kernel.history < vec_capacity self.old.kernel.history }
         ensures asked { HasAsked (D.state dev.new) self.old self.new result }
         ensures at { (o : World) → IsAt o (D.state dev.old) self.old → IsInUse o self.old.kernel → (c : Call) → has_step c ≡ true → IsAsked o (D.state dev.new) self.new c result }
@@ -128,6 +143,10 @@ impl Mount {
         ensures capacity { vec_capacity self.old.kernel.history ≤ vec_capacity self.new.kernel.history }
         ensures few { (D.state dev.new).count ≤ (D.state dev.old).count + 8 }
         ensures later { (D.state dev.old).count ≤ (D.state dev.new).count }
+        ensures logging { self.new.kernel.logging ≡ self.old.kernel.logging }
+        ensures first { self.new.kernel.first ≡ self.old.kernel.first }
+        ensures failed { HasFailed self.old.disabled self.new.disabled (D.state dev.old) (D.state dev.new) }
+        ensures asks { AsksOf (D.state dev.old) (D.state dev.new) self.old self.new result }
     {
         if self.begin_release(dev) {
             self.release(dev);

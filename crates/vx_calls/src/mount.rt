@@ -1,5 +1,5 @@
 //! A mount in memory.
-ghost use Rattle.std.specs.Prelude.{◌≡◌, ◌≢◌, ◌<◌, ◌≤◌, ◌+◌, ◌*◌, ◌++◌, ◌∷◌, [], true, false, length, All, None, Some, IfOk, OnOk, OnErr, vec_len, vec_capacity};
+ghost use Rattle.std.specs.Prelude.{◌≡◌, ◌≢◌, ◌<◌, ◌≤◌, ◌+◌, ◌*◌, ◌++◌, ◌∷◌, [], ℕ, true, false, nat_lt, length, All, None, Some, IsNone, IfOk, OnOk, OnErr, vec_len, vec_capacity};
 ghost use Rattle.std.specs.List.{AllByRecursion};
 ghost use Rattle.vx_base.specs.declared.event.Event.TheVariants as event;
 ghost use Rattle.vx_base.specs.Faults.{HasCause};
@@ -11,11 +11,13 @@ ghost use Rattle.vx_model.specs.Legal.{World};
 ghost use Rattle.vx_model.specs.State.{State};
 ghost use Rattle.vx_model.specs.Touching.{HasTouched, untouched};
 ghost use Rattle.vx_stage.specs.Growths.{IsBusy, IsInUse, IsOver, MayAnswer, MayStop};
-ghost use Rattle.vx_stage.specs.Kernels.{IsFit};
+ghost use Rattle.vx_dev.specs.Moments.{Told};
+ghost use Rattle.vx_dev.specs.Tape.{State as Device};
+ghost use Rattle.vx_stage.specs.Kernels.{HasRun, IsFit, IsLive, present};
 ghost use Rattle.vx_txn.specs.Calls.{most};
-ghost use Rattle.vx_txn.specs.Metas.{IsSound, Stands};
+ghost use Rattle.vx_txn.specs.Metas.{IsSound, IsStateOf, Stands};
 ghost use Rattle.vx_stage.specs.Staged.{has_stage, staged};
-ghost use Rattle.vx_stage.specs.declared.kernel.Job.TheVariants.{Idle, TailOut, LeaveOut, Broken};
+ghost use Rattle.vx_stage.specs.declared.kernel.Job.TheVariants.{Idle, Tail, TailOut, LeaveOut, Broken};
 
 use crate::asked::Asked;
 use crate::calls::has_front;
@@ -23,7 +25,7 @@ use std::alloc::Global;
 use std::mem;
 use vx_base::{Call, LineLists, Reply};
 use vx_dev::{BlockDev, DevFault};
-use vx_log::Batch;
+use vx_log::{Batch, note_laws};
 use vx_model::edits::edit_laws;
 use vx_stage::{Job, Kernel, fit_laws};
 use vx_txn::{Meta, Touched, stage};
@@ -57,7 +59,27 @@ pub enum Performed {
 
 impl Mount {
     ghost use Rattle.vx_calls.specs.Mounts.{IsAt, IsUsed, MayBegin, Released, LeavesOn};
-    ghost use Rattle.vx_calls.specs.Calls.{IsBuilt, HasPerformed, HasReplied};
+    ghost use Rattle.vx_calls.specs.Calls.{IsBuilt, HasFailed, HasPerformed, HasReplied};
+    ghost use Rattle.vx_calls.specs.Potentials.{waits, owed, per_transaction, debt, promised, last_events, TurnsBy};
+
+    /// A mount that begins now, on the kernel's device.
+    pub fn new(kernel: Kernel, meta: Meta, touched: Touched, transaction: Batch) -> Mount
+        requires job { kernel.job ≡ Idle }
+        requires touched { touched ≡ untouched }
+        requires transaction { transaction ≡ [] }
+        ensures at { (o : World) (d : Device) → HasRun o d kernel → Told d (IsLive o kernel) → IsFit d kernel → IsStateOf meta (present o kernel) → IsAt o d result }
+        ensures debt { (s : State) → IsStateOf meta s → ((b : ℕ) → s.layout.pending b ≡ None) → kernel.gathered ≡ [] → kernel.homes ≡ [] → IsNone kernel.log.closing → debt result ≡ 0 }
+        ensures same { result ≡ record { kernel = kernel; meta = meta; touched = touched; transaction = transaction; disabled = None; due = false } }
+    {
+        Mount {
+            kernel,
+            meta,
+            touched,
+            transaction,
+            disabled: None,
+            due: false,
+        }
+    }
 
     /// Does the next stage of the kernel's job. Where the tail has passed sectors that were written home, the blocks that waited for it
     /// are released.
@@ -81,7 +103,15 @@ impl Mount {
         ensures few { (D.state dev.new).count ≤ (D.state dev.old).count + 8 }
         ensures later { (D.state dev.old).count ≤ (D.state dev.new).count }
         ensures cause { HasCause (D.state dev.old).write_faults (D.state dev.new).write_faults result }
+        ensures logging { self.new.kernel.logging ≡ self.old.kernel.logging }
+        ensures first { self.new.kernel.first ≡ self.old.kernel.first }
+        ensures owed { owed self.new ≤ owed self.old }
+        ensures less { has_stage self.old.kernel.job ≡ true → owed self.new < owed self.old }
+        ensures promised { promised self.new ≤ promised self.old }
+        ensures failed { HasFailed self.old.disabled self.new.disabled (D.state dev.old) (D.state dev.new) }
     {
+        // The proof rests on these laws; nothing runs here.
+        note_laws();
         let job = self.kernel.job;
         let noted = self.kernel.homes.len();
         match self.kernel.stage(dev) {
@@ -106,6 +136,9 @@ impl Mount {
         ensures kernel { self.new.kernel ≡ record self.old.kernel { history = self.new.kernel.history } }
         ensures capacity { vec_capacity self.old.kernel.history ≤ vec_capacity self.new.kernel.history }
         ensures disabled { self.new.disabled ≡ self.old.disabled }
+        ensures waits { waits self.new.meta ≤ waits self.old.meta }
+        ensures promised { job ≢ Tail → promised self.new ≤ promised self.old }
+        ensures tail { job ≡ Tail → self.new ≡ record self.old { due = nat_lt 0 noted } }
     {
         match job {
             Job::Tail => self.due = noted > 0,
@@ -125,6 +158,8 @@ impl Mount {
         ensures kernel { self.new.kernel ≡ record self.old.kernel { history = self.new.kernel.history } }
         ensures capacity { vec_capacity self.old.kernel.history ≤ vec_capacity self.new.kernel.history }
         ensures disabled { self.new.disabled ≡ self.old.disabled }
+        ensures waits { waits self.new.meta ≤ waits self.old.meta }
+        ensures promised { promised self.new ≤ promised self.old }
     {
         let due = mem::replace(&mut self.due, false);
         if due && self.meta.has_pending() {
@@ -143,6 +178,10 @@ impl Mount {
         ensures kernel { self.new.kernel ≡ record self.old.kernel { history = self.new.kernel.history } }
         ensures capacity { vec_capacity self.old.kernel.history ≤ vec_capacity self.new.kernel.history }
         ensures disabled { self.new.disabled ≡ self.old.disabled }
+        ensures noted { length self.new.kernel.history.items ≡ length self.old.kernel.history.items + 1 }
+        ensures waits { waits self.new.meta ≤ waits self.old.meta }
+        ensures freed { self.old.kernel.committed ≡ length self.old.kernel.history.items → waits self.new.meta ≡ 0 }
+        ensures due { self.new.due ≡ self.old.due }
     {
         let upto = self.kernel.committed;
         self.kernel.release(dev);
@@ -155,10 +194,15 @@ impl Mount {
         requires job { self.old.kernel.job ≡ Idle }
         ensures at { (o : World) → IsAt o (D.state _dev.now) self.old → IsAt o (D.state _dev.now) self.new }
         ensures committed { result ≡ true → (self.new.kernel.job ≡ Idle) × (self.new.kernel.committed ≡ length self.old.kernel.history.items) }
+        ensures none { result ≡ true → self.old.kernel.gathered ≡ [] }
         ensures begun { result ≡ false → self.new.kernel.job ≢ Idle }
         ensures free { IsBusy self.new.kernel.job → ⊥ }
         ensures history { self.new.kernel.history ≡ self.old.kernel.history }
         ensures same { self.new ≡ record self.old { kernel = self.new.kernel } }
+        ensures logging { self.new.kernel.logging ≡ self.old.kernel.logging }
+        ensures first { self.new.kernel.first ≡ self.old.kernel.first }
+        ensures owed { owed self.new ≤ owed self.old }
+        ensures promised { promised self.new ≤ promised self.old }
     {
         // The proof rests on these laws; nothing runs here.
         fit_laws();
@@ -170,10 +214,15 @@ impl Mount {
         requires used { IsUsed (D.state dev.now) self.old }
         ensures at { (o : World) → IsAt o (D.state dev.now) self.old → IsAt o (D.state dev.now) self.new }
         ensures committed { result ≡ true → self.new.kernel.committed ≡ length self.old.kernel.history.items }
+        ensures none { result ≡ true → self.old.kernel.gathered ≡ [] }
         ensures begun { result ≡ false → self.new.kernel.job ≢ Idle }
         ensures free { (IsBusy self.old.kernel.job → ⊥) → IsBusy self.new.kernel.job → ⊥ }
         ensures history { self.new.kernel.history ≡ self.old.kernel.history }
         ensures same { self.new ≡ record self.old { kernel = self.new.kernel } }
+        ensures logging { self.new.kernel.logging ≡ self.old.kernel.logging }
+        ensures first { self.new.kernel.first ≡ self.old.kernel.first }
+        ensures owed { owed self.new ≤ owed self.old }
+        ensures promised { promised self.new ≤ promised self.old }
     {
         self.kernel.job == Job::Idle && self.want_commit(dev)
     }
@@ -198,6 +247,13 @@ impl Mount {
         ensures few { (D.state dev.new).count ≤ (D.state dev.old).count + 8 }
         ensures later { (D.state dev.old).count ≤ (D.state dev.new).count }
         ensures cause { HasCause (D.state dev.old).write_faults (D.state dev.new).write_faults result }
+        ensures logging { self.new.kernel.logging ≡ self.old.kernel.logging }
+        ensures first { self.new.kernel.first ≡ self.old.kernel.first }
+        ensures free { (IsBusy self.old.kernel.job → ⊥) → IsBusy self.new.kernel.job → ⊥ }
+        ensures works { IfOk result (λ reached. reached ≡ false → (D.state dev.old).count < (D.state dev.new).count) }
+        ensures owed { owed self.new ≤ owed self.old }
+        ensures less { IfOk result (λ reached. reached ≡ false → owed self.new < owed self.old) }
+        ensures promised { promised self.new ≤ promised self.old }
     {
         if place < self.kernel.committed || self.begin_commit(dev) {
             return Ok(true);
@@ -216,6 +272,10 @@ impl Mount {
         ensures free { IsBusy self.new.kernel.job → ⊥ }
         ensures history { self.new.kernel.history ≡ self.old.kernel.history }
         ensures same { self.new ≡ record self.old { kernel = self.new.kernel } }
+        ensures logging { self.new.kernel.logging ≡ self.old.kernel.logging }
+        ensures first { self.new.kernel.first ≡ self.old.kernel.first }
+        ensures owed { owed self.new ≤ owed self.old }
+        ensures promised { promised self.new ≤ promised self.old }
     {
         // The proof rests on these laws; nothing runs here.
         fit_laws();
@@ -231,6 +291,10 @@ impl Mount {
         ensures free { (IsBusy self.old.kernel.job → ⊥) → IsBusy self.new.kernel.job → ⊥ }
         ensures history { self.new.kernel.history ≡ self.old.kernel.history }
         ensures same { self.new ≡ record self.old { kernel = self.new.kernel } }
+        ensures logging { self.new.kernel.logging ≡ self.old.kernel.logging }
+        ensures first { self.new.kernel.first ≡ self.old.kernel.first }
+        ensures owed { owed self.new ≤ owed self.old }
+        ensures promised { promised self.new ≤ promised self.old }
     {
         self.kernel.job == Job::Idle && self.want_release(dev)
     }
@@ -256,6 +320,10 @@ impl Mount {
         ensures capacity { vec_capacity self.old.kernel.history ≤ vec_capacity self.new.kernel.history }
         ensures few { (D.state dev.new).count ≤ (D.state dev.old).count + 8 }
         ensures later { (D.state dev.old).count ≤ (D.state dev.new).count }
+        ensures logging { self.new.kernel.logging ≡ self.old.kernel.logging }
+        ensures first { self.new.kernel.first ≡ self.old.kernel.first }
+        ensures failed { HasFailed self.old.disabled self.new.disabled (D.state dev.old) (D.state dev.new) }
+        ensures turn { TurnsBy (D.state dev.old) (D.state dev.new) self.old self.new result }
     {
         let line = answered as usize;
         let Some(call) = lines.get(usize::from(session), line) else {
@@ -294,9 +362,12 @@ impl Mount {
         ensures kernel { self.new.kernel ≡ record self.old.kernel { gathered = self.new.kernel.gathered; history = self.new.kernel.history } }
         ensures capacity { vec_capacity self.old.kernel.history ≤ vec_capacity self.new.kernel.history }
         ensures disabled { self.new.disabled ≡ self.old.disabled }
+        ensures owed { owed self.new ≤ owed self.old + per_transaction }
+        ensures promised { promised self.new ≤ promised self.old + 2 }
     {
         // The proof rests on these laws; nothing runs here.
         edit_laws();
+        note_laws();
         // The proof wants to know what every batch is.
         let _open = self.kernel.gathered.len();
         self.gather();
@@ -334,6 +405,8 @@ impl Mount {
         ensures history { self.new.kernel.history.items ≡ self.old.kernel.history.items ++ event.Ret (D.state dev.now).count place answer ∷ [] }
         ensures same { self.new ≡ record self.old { kernel = record self.old.kernel { history = self.new.kernel.history } } }
         ensures capacity { vec_capacity self.old.kernel.history ≤ vec_capacity self.new.kernel.history }
+        ensures owed { owed self.new ≡ owed self.old }
+        ensures debt { debt self.new ≡ debt self.old }
     {
         self.kernel.ret(dev, place, answer);
     }
@@ -347,22 +420,24 @@ impl Mount {
         ensures history { self.new.kernel.history.items ≡ self.old.kernel.history.items ++ event.Stopped (D.state dev.now).count ∷ [] }
         ensures same { self.new ≡ record self.old { kernel = record self.old.kernel { history = self.new.kernel.history } } }
         ensures capacity { vec_capacity self.old.kernel.history ≤ vec_capacity self.new.kernel.history }
+        ensures owed { owed self.new ≡ owed self.old }
+        ensures debt { debt self.new ≡ debt self.old }
     {
         self.kernel.stopped(dev);
     }
 
-    /// Goes on with the unmount by one stage: all that has come is committed, the log is emptied, and the superblock is written. At the
-    /// end the history says so.
+    /// Goes on with the unmount by one stage: all that has come is committed, the log is emptied, and the superblock is written. Answers
+    /// whether the file system is left, which the history says then.
     ///
     /// # Errors
     ///
     /// A write or a barrier failed, which disables the mount.
-    pub fn leave<D: BlockDev>(&mut self, dev: &mut D) -> Result<(), DevFault>
+    pub fn leave<D: BlockDev>(&mut self, dev: &mut D) -> Result<bool, DevFault>
         requires used { IsUsed (D.state dev.old) self.old }
         requires enabled { self.old.disabled ≡ None }
         requires room { vec_len self.old.kernel.history < vec_capacity self.old.kernel.history }
         ensures at { (o : World) → IsAt o (D.state dev.old) self.old → IsOver o self.old.kernel → IsAt o (D.state dev.new) self.new }
-        ensures history { LeavesOn self.old.kernel self.new.kernel (D.state dev.new).count }
+        ensures history { IfOk result (λ left. LeavesOn left self.old.kernel self.new.kernel (D.state dev.new).count) }
         ensures enabled { OnOk result (self.new.disabled ≡ None) }
         ensures disabled { OnErr result (self.new.disabled ≡ Some (D.state dev.new).write_faults) }
         ensures still { OnErr result (self.new.kernel.history ≡ self.old.kernel.history) }
@@ -370,14 +445,35 @@ impl Mount {
         ensures few { (D.state dev.new).count ≤ (D.state dev.old).count + 8 }
         ensures later { (D.state dev.old).count ≤ (D.state dev.new).count }
         ensures cause { HasCause (D.state dev.old).write_faults (D.state dev.new).write_faults result }
+        ensures logging { self.new.kernel.logging ≡ self.old.kernel.logging }
+        ensures first { self.new.kernel.first ≡ self.old.kernel.first }
+        ensures owed { owed self.new < owed self.old }
+        ensures promised { promised self.new ≤ promised self.old + last_events result }
     {
-        match self.kernel.job {
-            Job::LeaveOut => self.finish(dev),
-            Job::Idle => {
-                self.want_clean(dev);
-                self.advance(dev)
-            }
-            _ => self.advance(dev),
+        if self.kernel.job == Job::LeaveOut {
+            self.finish(dev)?;
+            return Ok(true);
+        }
+        self.begin_clean(dev);
+        self.advance(dev)?;
+        Ok(false)
+    }
+
+    /// Begins what leaves the file system clean, where nothing is being done.
+    fn begin_clean<D: BlockDev>(&mut self, dev: &D)
+        requires used { IsUsed (D.state dev.now) self.old }
+        ensures at { (o : World) → IsAt o (D.state dev.now) self.old → IsAt o (D.state dev.now) self.new }
+        ensures begun { self.new.kernel.job ≢ Idle }
+        ensures out { self.old.kernel.job ≢ LeaveOut → self.new.kernel.job ≢ LeaveOut }
+        ensures history { self.new.kernel.history ≡ self.old.kernel.history }
+        ensures same { self.new ≡ record self.old { kernel = self.new.kernel } }
+        ensures logging { self.new.kernel.logging ≡ self.old.kernel.logging }
+        ensures first { self.new.kernel.first ≡ self.old.kernel.first }
+        ensures owed { owed self.new ≤ owed self.old }
+        ensures promised { promised self.new ≤ promised self.old }
+    {
+        if self.kernel.job == Job::Idle {
+            self.want_clean(dev);
         }
     }
 
@@ -388,6 +484,12 @@ impl Mount {
         ensures at { (o : World) → IsAt o (D.state _dev.now) self.old → IsAt o (D.state _dev.now) self.new }
         ensures history { self.new.kernel.history ≡ self.old.kernel.history }
         ensures same { self.new ≡ record self.old { kernel = self.new.kernel } }
+        ensures begun { self.new.kernel.job ≢ Idle }
+        ensures out { self.new.kernel.job ≢ LeaveOut }
+        ensures logging { self.new.kernel.logging ≡ self.old.kernel.logging }
+        ensures first { self.new.kernel.first ≡ self.old.kernel.first }
+        ensures owed { owed self.new ≤ owed self.old }
+        ensures promised { promised self.new ≤ promised self.old }
     {
         // The proof rests on these laws; nothing runs here.
         fit_laws();
@@ -401,7 +503,7 @@ impl Mount {
         requires job { self.old.kernel.job ≡ LeaveOut }
         requires room { vec_len self.old.kernel.history < vec_capacity self.old.kernel.history }
         ensures at { (o : World) → IsAt o (D.state dev.old) self.old → IsOver o self.old.kernel → IsAt o (D.state dev.new) self.new }
-        ensures history { LeavesOn self.old.kernel self.new.kernel (D.state dev.new).count }
+        ensures history { OnOk result (LeavesOn true self.old.kernel self.new.kernel (D.state dev.new).count) }
         ensures enabled { OnOk result (self.new.disabled ≡ None) }
         ensures disabled { OnErr result (self.new.disabled ≡ Some (D.state dev.new).write_faults) }
         ensures still { OnErr result (self.new.kernel.history ≡ self.old.kernel.history) }
@@ -409,6 +511,10 @@ impl Mount {
         ensures few { (D.state dev.new).count ≤ (D.state dev.old).count + 8 }
         ensures later { (D.state dev.old).count ≤ (D.state dev.new).count }
         ensures cause { HasCause (D.state dev.old).write_faults (D.state dev.new).write_faults result }
+        ensures logging { self.new.kernel.logging ≡ self.old.kernel.logging }
+        ensures first { self.new.kernel.first ≡ self.old.kernel.first }
+        ensures owed { owed self.new ≡ 0 }
+        ensures debt { debt self.new ≡ 0 }
     {
         match self.kernel.finish(dev) {
             Ok(()) => Ok(()),

@@ -1,9 +1,11 @@
-use Rattle.std.proofs.Common.{◌≡◌, ◌≢◌, ◌⊎◌, List, refl, inl, inr}
+use Rattle.std.proofs.Common.{◌≡◌, ◌⊎◌, List, refl, inl, inr}
 use Rattle.vx_layout.specs.LogForms.{AfterImage}
 use Rattle.vx_stage.specs.Staged.{homes_from}
 use Rattle.vx_stage.specs.declared.kernel.Job.{Job}
-use Rattle.vx_stage.specs.declared.kernel.Job.TheVariants.{Idle, Body, Leave, Broken}
-use Rattle.vx_calls.proofs.Keeping.{wanted_at, starts_whole, wished}
+use Rattle.vx_stage.specs.declared.kernel.Job.TheVariants.{Idle, Body, Leave}
+use Rattle.vx_calls.proofs.Keeping.{IsWhole, wanted_at, starts_whole, wished}
+use Rattle.vx_calls.proofs.Owing.{release_answered}
+use Rattle.vx_calls.proofs.Spending.{begun_owed, begun_promised}
 use Rattle.vx_calls.proofs.mount.Mount.want_release.Goals as goal
 
 begun : (j : Job) (homes : List AfterImage) → (j ≡ Body) ⊎ (j ≡ homes_from homes) → (j ≡ Idle) ⊎ ((j ≡ Body) ⊎ ((j ≡ homes_from homes) ⊎ (j ≡ Leave)))
@@ -14,6 +16,22 @@ pub returns-clause-at : goal.returns-clause-at
 returns-clause-at g c = λ o at.
     let m = c.args.self.now in
     let d = g.D.BlockDev.state c.args._dev.now in
-    wanted_at o d d m at c.want_release.new.self c.requires.job (wished c.want_release.result (λ x. x ≢ Broken) c.want_release.new.self.job (λ done. starts_whole m.kernel.homes c.want_release.new.self.job (inl (c.want_release.ensures.ready done).0))
+    wanted_at o d d m at c.want_release.new.self c.requires.job (wished c.want_release.result IsWhole c.want_release.new.self.job (λ done. starts_whole m.kernel.homes c.want_release.new.self.job (inl (c.want_release.ensures.ready done).0))
     (λ not_. starts_whole m.kernel.homes c.want_release.new.self.job (begun c.want_release.new.self.job m.kernel.homes (c.want_release.ensures.begun not_))))
     c.want_release.ensures.history (c.want_release.ensures.run o d at.run) (c.want_release.ensures.live o d at.run at.live) (c.fit_laws.ensures.device d d m.kernel c.want_release.new.self at.fit c.want_release.ensures.fit c.want_release.ensures.sizes refl)
+
+pub returns-clause-logging : goal.returns-clause-logging
+returns-clause-logging g c = let m = c.args.self.now in (release_answered m.kernel c.want_release.new.self c.want_release.result c.requires.job c.requires.used.at.fit.job c.want_release.ensures.same c.want_release.ensures.begins c.want_release.ensures.closes).logging
+
+pub returns-clause-first : goal.returns-clause-first
+returns-clause-first g c = let m = c.args.self.now in (release_answered m.kernel c.want_release.new.self c.want_release.result c.requires.job c.requires.used.at.fit.job c.want_release.ensures.same c.want_release.ensures.begins c.want_release.ensures.closes).first
+
+pub returns-clause-owed : goal.returns-clause-owed
+returns-clause-owed g c =
+    let m = c.args.self.now in
+    begun_owed m (record m { kernel = c.want_release.new.self }) refl c.want_release.ensures.history (release_answered m.kernel c.want_release.new.self c.want_release.result c.requires.job c.requires.used.at.fit.job c.want_release.ensures.same c.want_release.ensures.begins c.want_release.ensures.closes)
+
+pub returns-clause-promised : goal.returns-clause-promised
+returns-clause-promised g c =
+    let m = c.args.self.now in
+    begun_promised m (record m { kernel = c.want_release.new.self }) refl c.want_release.ensures.history (release_answered m.kernel c.want_release.new.self c.want_release.result c.requires.job c.requires.used.at.fit.job c.want_release.ensures.same c.want_release.ensures.begins c.want_release.ensures.closes)
