@@ -22,7 +22,7 @@ use Rattle.vx_core.specs.declared.session.Session.{Session}
 use Rattle.vx_core.specs.declared.session.UnderWay.{UnderWay}
 use Rattle.vx_core.specs.Facts.{IsScript, Facts, view_of, ends_run, is_fine, HasAnswered}
 use Rattle.vx_core.specs.Lines.{script_lines}
-use Rattle.vx_core.specs.Mounts.{MountView, IsStage, Released, releases, TellsFault, MayAnswer, noted}
+use Rattle.vx_core.specs.Mounts.{MountView, HasFailed, IsStage, Released, releases, TellsFault, MayAnswer, noted}
 use Rattle.vx_core.specs.Tracks.{session_at, under_way_at, IsUnderWay, IsAnyUnderWay, Tracks, WaitsForFront, WaitForFronts, IsRunning, IsOnCourse}
 use Rattle.vx_core.proofs.ScriptLines.{script_other, script_ret}
 use Rattle.vx_core.proofs.Standings.{stands_under_way, ret_allowed, front_no_stop, same_needs}
@@ -110,7 +110,7 @@ module _ (laws : GrowthLaws) (built : Call → Type 0) (o : World) (was : Type 0
   -- ---- a stage alone
 
   module _ (stands : standing (script_lines lists v.history) v.history s ≡ ready) (runs : IsRunning (after_all o v.history) v.history) where
-    pub staged_turn : (kept : Type 0) (later : MountView) → kept → Released v.history later.history later.count → v.count < later.count → IsStage v later → later.leaving ≡ false
+    pub staged_turn : (kept : Type 0) (later : MountView) → kept → Released v.history later.history later.count → (v.count < later.count) ⊎ (length v.history < length later.history) → IsStage v later → later.leaving ≡ false
         → TurnDone built o kept v lists s later lists sessions false
     staged_turn kept later keeps r works stage free =
         let same = script_staged later r in
@@ -118,7 +118,10 @@ module _ (laws : GrowthLaws) (built : Call → Type 0) (o : World) (was : Type 0
         record {
           facts = facts_later kept later lists sessions false keeps same g.tracks (fronts_staged later stage.logging r) (inl g.running) f.counts refl free;
           goes = goes_later kept later lists sessions false keeps same stands
-              (going_turn laws o (script_lines lists v.history) s v.history v.count sessions later.history later.count g stands (λ _ e. absurd (omega arith))) stage.few;
+              (going_turn laws o (script_lines lists v.history) s v.history v.count sessions later.history later.count g stands (λ same_h e. absurd (elim works [
+                | inl lt ↦ absurd (omega arith)
+                | inr longer ↦ absurd (let equal : length later.history ≡ length v.history = ap length same_h in omega arith)
+              ]))) stage.few;
         }
 
   -- ---- a call that goes on
@@ -185,7 +188,11 @@ pub nothing_released : (h : List Event) (at : ℕ) → Released h h at
 nothing_released h at = record { released = false; upto = 0; is = sym (append-nil h) }
 
 pub same_stage : (v : MountView) → IsStage v v
-same_stage v = record { logging = refl; later = omega arith; few = omega arith; room = refl }
+same_stage v = record { logging = refl; later = omega arith; few = omega arith; failing = same_failing v.disabled }
+  where
+    same_failing : (o : Option ℕ) → HasFailed o o v v
+    same_failing None = refl
+    same_failing (Some faults) = (refl, (refl, refl))
 
 -- the session's call, once its record is known
 pub there_is : (sessions : List Session) (s : ℕ) → IsSome (under_way_at sessions s) → (u : UnderWay) × (session_at sessions s ≡ record { answered = (session_at sessions s).answered; under_way = Some u })
@@ -244,19 +251,4 @@ module _ (laws : GrowthLaws) (built : Call → Type 0) (o : World) (was : Type 0
         (answered_turn laws built o was v lists sessions f s n u inside is stands_there its_running kept staged later u.answer keeps r stage free (λ c front. front_goes_on v.logging c u.answer front) a.view)
 
     pub waiting_turn : (kept : Type 0) (later : MountView) → kept → Released v.history later.history later.count → v.count < later.count → IsStage v later → later.leaving ≡ false → TurnDone built o kept v lists s later lists sessions false
-    waiting_turn kept later keeps r works stage free = staged_turn laws built o was v lists sessions f s stands_there its_running kept later keeps r works stage free
-
--- what room a history had, it has or has used
-pub room_noted : (v later : MountView) (e : Event) → later ≡ noted v e → 0 < v.spare → length later.history + later.spare ≡ length v.history + v.spare
-room_noted v later e is room = subst (λ x. length x.history + x.spare ≡ length v.history + v.spare) (sym is) (let long : length (v.history ++ e ∷ []) ≡ length v.history + length (e ∷ []) = length-append v.history (e ∷ []) in omega arith)
-
--- behind a stage there is room for one event less at most
-pub room_left : (v later : MountView) → Released v.history later.history later.count → IsStage v later → 1 < v.spare → 0 < later.spare
-room_left v later r stage room =
-    let long : length later.history ≡ length v.history + length (releases r.released later.count r.upto) = ap length r.is ∙ length-append v.history (releases r.released later.count r.upto) in
-    let one : length (releases r.released later.count r.upto) ≤ 1 = at_most_one r.released later.count r.upto in
-    omega (arith, stage.room)
-  where
-    at_most_one : (b : Bool) (at upto : ℕ) → length (releases b at upto) ≤ 1
-    at_most_one true at upto = omega arith
-    at_most_one false at upto = omega arith
+    waiting_turn kept later keeps r works stage free = staged_turn laws built o was v lists sessions f s stands_there its_running kept later keeps r (inl works) stage free

@@ -10,3 +10,7 @@ pub mod Ending
 pub mod Beginning
 pub mod Unmounting
 pub mod Working
+pub mod Rooming
+pub mod Lasting
+pub mod Telling
+pub mod Founding

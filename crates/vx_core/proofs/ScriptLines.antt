@@ -26,7 +26,7 @@ pub length_script : (lists : List (List Call)) (h : List Event) → length (scri
 unfolding script_lines
 length_script lists h = length-map-range_with_len (lines_of_session lists h) 0 (length lists)
 
-lines_of_get_or : (lists : List (List Call)) (s : ℕ) → lines_of lists s ≡ get_or lists s []
+pub lines_of_get_or : (lists : List (List Call)) (s : ℕ) → lines_of lists s ≡ get_or lists s []
 unfolding lines_of
 lines_of_get_or lists s = unwrap_or-slice_get lists s []
 

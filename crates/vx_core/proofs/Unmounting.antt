@@ -1,5 +1,5 @@
 -- A turn of the unmount.
-use Rattle.std.proofs.Common.{◌≡◌, ℕ, ◌≤◌, ◌||◌, List, [], ◌∷◌, ◌++◌, Bool, true, false, None, is_some, refl, sym, ap, subst, ◌∙◌, append-nil, arith, inl, inr}
+use Rattle.std.proofs.Common.{◌≡◌, ℕ, ◌≤◌, ◌||◌, List, [], ◌∷◌, ◌++◌, Bool, true, false, Option, Some, None, is_some, refl, sym, ap, subst, ◌∙◌, append-nil, arith, inl, inr}
 use Rattle.std.specs.Prelude.{All}
 use Rattle.std.proofs.lemmas.List.Elements.{All-cons}
 use Rattle.vx_base.specs.declared.call.Call.{Call}
@@ -12,6 +12,7 @@ use Rattle.vx_mount.specs.Sessions.{answered, standing}
 use Rattle.vx_mount.specs.Cores.{AllFinished, AreUnmountEvents, UnmountsOn, has_ended, is_end}
 use Rattle.vx_core.specs.declared.session.Session.{Session}
 use Rattle.vx_core.specs.Facts.{IsScript, Facts, view_of}
+use Rattle.vx_core.specs.Faults.{AreOver}
 use Rattle.vx_core.specs.Lines.{script_lines}
 use Rattle.vx_core.specs.Mounts.{MountView, IsStage, IsOver, leaves}
 use Rattle.vx_core.specs.Tracks.{under_way_at, Tracks, WaitForFronts, IsRunning, IsUnmounted, IsOnCourse, last_event}
@@ -36,6 +37,10 @@ open_runs built o was v lists sessions false f open_end = (
 pub not_ended : (v : MountView) (lists : List (List Call)) → is_some v.disabled ≡ false → is_end (last_event v.history) ≡ false → has_ended (view_of v lists) ≡ false
 unfolding has_ended
 not_ended v lists enabled open_end = rw (open_end, enabled) refl
+
+pub not_disabled : (o : Option ℕ) → is_some o ≡ false → o ≡ None
+not_disabled None e = refl
+not_disabled (Some n) e = absurd (cc)
 
 or_true : (b : Bool) → (b || true) ≡ true
 or_true true = refl
@@ -62,6 +67,10 @@ module _ (laws : GrowthLaws) (built : Call → Type 0) (o : World) (was : Type 0
 
   pub is_over : IsOver o v
   is_over = record { waiting = none_waits lines (after_all o v.history) v.history sessions f.tracks no_call; mounted = runs.phase }
+
+  -- where nothing came, nobody has a line left still
+  pub is_over_still : (later : MountView) → later.history ≡ v.history → AreOver (script_lines lists later.history) later.history
+  is_over_still later still = subst (λ h. AreOver (script_lines lists h) h) (sym still) no_line
 
   -- what is known of a history of the unmount
   record Left (h : List Event) : Type 0 where

@@ -6,15 +6,18 @@ use Rattle.vx_base.specs.declared.refusal.Refusal.{Refusal}
 use Rattle.vx_base.specs.declared.reply.Reply.{Reply}
 use Rattle.vx_base.specs.declared.reply.Reply.TheVariants as say
 use Rattle.vx_base.specs.Lines.{lines_of, line_after}
-use Rattle.vx_model.specs.Legal.{World, after_all, is_stop}
-use Rattle.vx_mount.specs.Cores.{CoreView}
-use Rattle.vx_mount.specs.Orders.{HasOrder}
+use Rattle.std.specs.FinMap as map
+use Rattle.vx_grammar.specs.Orders.{HasOrder}
+use Rattle.vx_model.specs.Legal.{World, in_use, after_all, is_stop}
+use Rattle.vx_mount.specs.Cores.{CoreView, Opening}
 use Rattle.vx_mount.specs.Sessions.{answered, standing, finished, waiting, ready}
 use Rattle.vx_core.specs.declared.session.Session.{Session}
 use Rattle.vx_core.specs.declared.session.UnderWay.{UnderWay}
 use Rattle.vx_core.specs.declared.engine.Next.{Next}
 use Rattle.vx_core.specs.declared.engine.Next.TheVariants as next
+use Rattle.vx_core.specs.Faults.{TellsInOrder}
 use Rattle.vx_core.specs.Lines.{script_lines}
+use Rattle.vx_core.specs.Rooms.{HasRoom}
 use Rattle.vx_core.specs.Mounts.{MountView, noted}
 use Rattle.vx_core.specs.Tracks.{session_at, under_way_at, Tracks, WaitForFronts, IsOnCourse}
 
@@ -35,6 +38,30 @@ pub record Facts (built : Call → Type 0) (o : World) (kept : Type 0) (v : Moun
   pub few : length lists ≤ 16
   -- the mount is being left only where no line is left
   pub over : v.leaving ≡ true → (s : ℕ) → line_after (script_lines lists v.history) s (answered s v.history) ≡ None
+
+-- what a core needs for its next turn: what it keeps for some world, and room in the history
+pub record IsSound (built : Call → Type 0) (kept : World → Type 0) (v : MountView) (lists : List (List Call)) (sessions : List Session) (ended : Bool) : Type 0 where
+  pub world : World
+  pub facts : Facts built world (kept world) v lists sessions ended
+  pub room : HasRoom v lists sessions
+
+-- what each turn keeps, where the history began so
+pub record IsKept (built : Call → Type 0) (o : Opening) (kept : Type 0) (v : MountView) (lists : List (List Call)) (sessions : List Session) (ended : Bool) : Type 0 where
+  pub facts : Facts built o.world kept v lists sessions ended
+  pub order : TellsInOrder o.write_faults v (script_lines lists v.history)
+  pub logging : v.logging ≡ o.logging
+
+-- a world in which a mount begins
+pub record IsBegun (o : World) : Type 0 where
+  pub phase : o.phase ≡ in_use
+  pub next : o.next ≡ 0
+  pub waiting : o.waiting ≡ map.empty
+
+-- a mount whose history begins
+pub record IsNew (v : MountView) : Type 0 where
+  pub history : v.history ≡ []
+  pub enabled : v.disabled ≡ None
+  pub leaving : v.leaving ≡ false
 
 abbrev pub view_of : MountView → List (List Call) → CoreView
 view_of v lists = record { lines = script_lines lists v.history; history = v.history; count = v.count; locks = []; disabled = is_some v.disabled }

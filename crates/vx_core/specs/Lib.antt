@@ -1,5 +1,7 @@
 pub mod Lines
 pub mod Tracks
 pub mod Mounts
-pub mod Facts
 pub mod Works
+pub mod Rooms
+pub mod Faults
+pub mod Facts

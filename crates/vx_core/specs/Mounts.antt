@@ -1,5 +1,5 @@
 -- What a core sees of its mount and device.
-use Rattle.std.specs.Prelude.{◌≡◌, ◌+◌, ◌-◌, ◌≤◌, ◌<◌, ℕ, Bool, true, false, List, [], ◌∷◌, ◌++◌, length, set, Option, None, Some, IfSome, IsSome, if◌then◌else◌}
+use Rattle.std.specs.Prelude.{◌≡◌, ◌⊎◌, ◌+◌, ◌-◌, ◌≤◌, ◌<◌, ℕ, Bool, true, false, List, [], ◌∷◌, ◌++◌, length, set, Option, None, Some, IfSome, IsSome, if◌then◌else◌}
 use Rattle.std.specs.FinMap as map
 use Rattle.vx_base.specs.declared.call.Call.{Call}
 use Rattle.vx_base.specs.declared.call.Call.TheVariants as call
@@ -10,6 +10,7 @@ use Rattle.vx_base.specs.declared.refusal.Refusal.{Refusal}
 use Rattle.vx_base.specs.declared.refusal.Refusal.TheVariants as no
 use Rattle.vx_base.specs.declared.reply.Reply.{Reply}
 use Rattle.vx_base.specs.declared.reply.Reply.TheVariants as say
+use Rattle.vx_base.specs.Faults.{Rose}
 use Rattle.vx_base.specs.Lines.{lines_of, line_after}
 use Rattle.vx_model.specs.Allowed.{call_at, has_front, is_refusal}
 use Rattle.vx_model.specs.Legal.{World, in_use, stopping, RetAllowed, after_all, is_idle}
@@ -29,7 +30,7 @@ pub record MountView : Type 0 where
   pub committed : ℕ
   -- the superblock of a clean file system is being written
   pub leaving : Bool
-  -- the history has room for so many events more
+  -- the history has room for so many events more, beside the releases that the mount may still note by itself
   pub spare : ℕ
 
 -- ---- what may be asked of it
@@ -77,12 +78,19 @@ pub record IsLeavable (kept : World → Type 0) (v : MountView) : Type 0 where
 
 -- ---- what it does
 
--- at most one stage of the device; what room the history had, it has or has used
+-- How failed writes disable a mount: where none fails their number stays, the first one disables the mount by it, and a disabled mount
+-- does no operation.
+abbrev pub HasFailed : (before now : Option ℕ) → (old new : MountView) → Type 0
+HasFailed None None old new = new.write_faults ≡ old.write_faults
+HasFailed None (Some faults) old new = Rose old.write_faults new.write_faults × (faults ≡ new.write_faults)
+HasFailed (Some faults) now old new = (now ≡ Some faults) × ((new.count ≡ old.count) × (new.write_faults ≡ old.write_faults))
+
+-- at most one stage of the device
 pub record IsStage (old new : MountView) : Type 0 where
   pub logging : new.logging ≡ old.logging
   pub later : old.count ≤ new.count
   pub few : new.count ≤ old.count + 8
-  pub room : length new.history + new.spare ≡ length old.history + old.spare
+  pub failing : HasFailed old.disabled new.disabled old new
 
 -- the blocks that waited were released, or none were
 abbrev pub releases : Bool → (at upto : ℕ) → List Event
@@ -121,11 +129,15 @@ pub record HasDone (old new : MountView) (lines later : List (List Call)) (sessi
   pub moved : later ≡ set lines session (set (lines_of lines session) answered call.Sync)
   pub commits_is : commits ≡ has_front old.logging done
   pub tells : TellsFault old.disabled new.disabled new.write_faults answer
+  -- unless a write failed, nothing was done on the device
+  pub quiet : new.disabled ≡ old.disabled → new.count ≡ old.count
+  pub room : old.spare ≤ new.spare + 3
 
--- a stage came first, that makes room for the call
+-- a stage, or the release of blocks, came first, that makes room for the call
 pub record HasMadeRoom (old new : MountView) : Type 0 where
   pub history : Released old.history new.history new.count
-  pub works : old.count < new.count
+  pub works : (old.count < new.count) ⊎ (length old.history < length new.history)
+  pub room : old.spare ≤ new.spare
   pub enabled : old.disabled ≡ None
   pub still : new.disabled ≡ None
 

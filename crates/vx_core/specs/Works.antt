@@ -16,3 +16,7 @@ left_of per_call lines sessions s = (length (lines_of lines s) - ((session_at se
 -- of all sessions, with what the mount has still to do
 unfoldable pub work_of : (per_call owed : ℕ) → List (List Call) → List Session → ℕ
 work_of per_call owed lines sessions = sum_below (left_of per_call lines sessions) (length lines) + owed
+
+-- how many lines there are
+unfoldable pub line_count : List (List Call) → ℕ
+line_count lines = sum_below (λ s. length (lines_of lines s)) (length lines)

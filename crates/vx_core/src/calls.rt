@@ -24,6 +24,7 @@ pub trait Calls {
     ghost use Rattle.vx_model.specs.Legal.{World};
     ghost use Rattle.vx_core.specs.Tracks.{last_event};
     ghost use Rattle.vx_mount.specs.Cores.{is_end};
+    ghost use Rattle.vx_mount.specs.GrowthLaws.{one_if};
     ghost use Rattle.vx_core.specs.Mounts.{MountView, IsInUse, IsUsed, MayBegin, MayAnswer, MayStop, IsStoppable, IsOver, IsLeavable, IsStage, Released, HasPerformed, OwesBehind, IsBuilt, noted, leaves};
 
     /// What a core sees of it.
@@ -42,7 +43,7 @@ pub trait Calls {
     ghost per_call: { ℕ };
 
     /// Begins a session's line that comes after so many: the call is moved out of the list, done, and noted with its reply. Where there
-    /// may be no room for it, or blocks are short that wait, a stage of the device comes in its place.
+    /// may be no room for it, or blocks are short that wait, a stage of the device or their release comes in its place.
     fn perform(
         &mut self,
         alloc: Global,
@@ -54,7 +55,7 @@ pub trait Calls {
         requires free { (view self.old).leaving ≡ false }
         requires line { IsBuilt built (line_after lines.old session answered) }
         requires limit { answered < 65536 }
-        requires room { 0 < (view self.old).spare }
+        requires room { 2 < (view self.old).spare }
         ensures performed { HasPerformed (view self.old) (view self.new) lines.old lines.new session answered result }
         ensures kept { (o : World) → kept o self.old → MayBegin o (view self.old) session (answered + 1) → kept o self.new }
         ensures stage { IsStage (view self.old) (view self.new) }
@@ -80,6 +81,7 @@ pub trait Calls {
         ensures disabled { OnErr result ((view self.new).disabled ≡ Some (view self.new).write_faults) }
         ensures still { OnErr result ((view self.new).history ≡ (view self.old).history) }
         ensures stage { IsStage (view self.old) (view self.new) }
+        ensures room { (view self.old).spare ≤ (view self.new).spare }
         ensures free { (view self.new).leaving ≡ false }
         ensures owed { owed self.new ≤ owed self.old }
         ensures less { IfOk result (λ reached. reached ≡ false → owed self.new < owed self.old) };
@@ -117,6 +119,8 @@ pub trait Calls {
         ensures disabled { OnErr result ((view self.new).disabled ≡ Some (view self.new).write_faults) }
         ensures still { OnErr result ((view self.new).history ≡ (view self.old).history) }
         ensures stage { IsStage (view self.old) (view self.new) }
+        ensures room { IfOk result (λ left. (view self.old).spare ≤ (view self.new).spare + one_if left) }
+        ensures held { OnErr result ((view self.old).spare ≤ (view self.new).spare) }
         ensures owed { owed self.new < owed self.old };
 
     /// The count of the first failed write, where the mount is disabled.

@@ -9,6 +9,8 @@ ghost use Rattle.vx_mount.specs.declared.turns.Turn.TheVariants.{Turned};
 ghost use Rattle.vx_mount.specs.Sessions.{standing, ready};
 ghost use Rattle.vx_core.specs.Lines.{script_lines};
 ghost use Rattle.vx_core.specs.Works.{work_of};
+ghost use Rattle.vx_core.specs.Rooms.{HasRoom};
+ghost use Rattle.vx_core.specs.Faults.{TellsInOrder};
 ghost use Rattle.vx_core.specs.declared.session.UnderWay.{UnderWay};
 ghost use Rattle.vx_core.specs.Mounts.{IsUsed, MayAnswer};
 ghost use Rattle.vx_core.specs.Tracks.{session_at, under_way_at};
@@ -149,11 +151,13 @@ impl<M: Calls> Core<M> {
         requires running { self.old.stopped ≡ false }
         requires under_way { IsSome (under_way_at self.old.sessions.items actor) }
         requires free { (M.view self.old.mount).leaving ≡ false }
-        requires room { 1 < (M.view self.old.mount).spare }
+        requires room { HasRoom (M.view self.old.mount) self.old.lines self.old.sessions.items }
         ensures goes { GoesOn (view_of (M.view self.old.mount) self.old.lines) actor (view_of (M.view self.new.mount) self.new.lines) }
         ensures kept { (o : World) → Facts M.built o (M.kept o self.old.mount) (M.view self.old.mount) self.old.lines self.old.sessions.items self.old.stopped
             → Facts M.built o (M.kept o self.new.mount) (M.view self.new.mount) self.new.lines self.new.sessions.items self.new.stopped }
-        ensures room { length (M.view self.new.mount).history + (M.view self.new.mount).spare ≡ length (M.view self.old.mount).history + (M.view self.old.mount).spare }
+        ensures room { HasRoom (M.view self.new.mount) self.new.lines self.new.sessions.items }
+        ensures logging { (M.view self.new.mount).logging ≡ (M.view self.old.mount).logging }
+        ensures order { (before : ℕ) → TellsInOrder before (M.view self.old.mount) (script_lines self.old.lines (M.view self.old.mount).history) → TellsInOrder before (M.view self.new.mount) (script_lines self.new.lines (M.view self.new.mount).history) }
         ensures less { work_of M.per_call (M.owed self.new.mount) (script_lines self.new.lines (M.view self.new.mount).history) self.new.sessions.items < work_of M.per_call (M.owed self.old.mount) (script_lines self.old.lines (M.view self.old.mount).history) self.old.sessions.items }
     {
         // The proof rests on these laws; nothing runs here.
@@ -205,11 +209,13 @@ impl<M: Calls> Core<M> {
         requires idle { under_way_at self.old.sessions.items actor ≡ None }
         requires line { IsSome (line_after self.old.lines actor (session_at self.old.sessions.items actor).answered) }
         requires free { (M.view self.old.mount).leaving ≡ false }
-        requires room { 2 < (M.view self.old.mount).spare }
+        requires room { HasRoom (M.view self.old.mount) self.old.lines self.old.sessions.items }
         ensures goes { GoesOn (view_of (M.view self.old.mount) self.old.lines) actor (view_of (M.view self.new.mount) self.new.lines) }
         ensures kept { (o : World) → Facts M.built o (M.kept o self.old.mount) (M.view self.old.mount) self.old.lines self.old.sessions.items self.old.stopped
             → Facts M.built o (M.kept o self.new.mount) (M.view self.new.mount) self.new.lines self.new.sessions.items self.new.stopped }
-        ensures room { length (M.view self.new.mount).history + (M.view self.new.mount).spare ≡ length (M.view self.old.mount).history + (M.view self.old.mount).spare }
+        ensures room { HasRoom (M.view self.new.mount) self.new.lines self.new.sessions.items }
+        ensures logging { (M.view self.new.mount).logging ≡ (M.view self.old.mount).logging }
+        ensures order { (before : ℕ) → TellsInOrder before (M.view self.old.mount) (script_lines self.old.lines (M.view self.old.mount).history) → TellsInOrder before (M.view self.new.mount) (script_lines self.new.lines (M.view self.new.mount).history) }
         ensures less { work_of M.per_call (M.owed self.new.mount) (script_lines self.new.lines (M.view self.new.mount).history) self.new.sessions.items < work_of M.per_call (M.owed self.old.mount) (script_lines self.old.lines (M.view self.old.mount).history) self.old.sessions.items }
     {
         // The proof rests on these laws; nothing runs here.
@@ -242,7 +248,7 @@ impl<M: Calls> Core<M> {
     }
 
     /// The number of sessions.
-    pub fn sessions(&self) -> u8
+    pub fn session_count(&self) -> u8
         requires { (o : World) × Facts M.built o (M.kept o self.now.mount) (M.view self.now.mount) self.now.lines self.now.sessions.items self.now.stopped }
         ensures { result ≡ length (view_of (M.view self.now.mount) self.now.lines).lines }
     {
@@ -250,7 +256,7 @@ impl<M: Calls> Core<M> {
     }
 
     /// What every core keeps, by which some session can always go on until all are finished.
-    pub fn facts(&self)
+    pub fn can_go_on(&self)
         requires { (o : World) × Facts M.built o (M.kept o self.now.mount) (M.view self.now.mount) self.now.lines self.now.sessions.items self.now.stopped }
         ensures { CanGoOn (view_of (M.view self.now.mount) self.now.lines) }
     {}
@@ -260,12 +266,14 @@ impl<M: Calls> Core<M> {
     pub fn take_turn(&mut self, actor: u8) -> Turn
         requires sound { (o : World) × Facts M.built o (M.kept o self.old.mount) (M.view self.old.mount) self.old.lines self.old.sessions.items self.old.stopped }
         requires actor { actor < length self.old.sessions.items }
-        requires room { 2 < (M.view self.old.mount).spare }
+        requires room { HasRoom (M.view self.old.mount) self.old.lines self.old.sessions.items }
         ensures turn { TakesTurn (view_of (M.view self.old.mount) self.old.lines) actor result (view_of (M.view self.new.mount) self.new.lines) }
         ensures idle { result ≢ Turned → self.new ≡ self.old }
         ensures kept { (o : World) → Facts M.built o (M.kept o self.old.mount) (M.view self.old.mount) self.old.lines self.old.sessions.items self.old.stopped
             → Facts M.built o (M.kept o self.new.mount) (M.view self.new.mount) self.new.lines self.new.sessions.items self.new.stopped }
-        ensures room { length (M.view self.new.mount).history + (M.view self.new.mount).spare ≡ length (M.view self.old.mount).history + (M.view self.old.mount).spare }
+        ensures room { HasRoom (M.view self.new.mount) self.new.lines self.new.sessions.items }
+        ensures logging { (M.view self.new.mount).logging ≡ (M.view self.old.mount).logging }
+        ensures order { (before : ℕ) → TellsInOrder before (M.view self.old.mount) (script_lines self.old.lines (M.view self.old.mount).history) → TellsInOrder before (M.view self.new.mount) (script_lines self.new.lines (M.view self.new.mount).history) }
         ensures less { result ≡ Turned → work_of M.per_call (M.owed self.new.mount) (script_lines self.new.lines (M.view self.new.mount).history) self.new.sessions.items < work_of M.per_call (M.owed self.old.mount) (script_lines self.old.lines (M.view self.old.mount).history) self.old.sessions.items }
     {
         // The proof rests on these laws; nothing runs here.
@@ -289,11 +297,13 @@ impl<M: Calls> Core<M> {
     pub fn take_unmount_turn(&mut self) -> Turn
         requires sound { (o : World) × Facts M.built o (M.kept o self.old.mount) (M.view self.old.mount) self.old.lines self.old.sessions.items self.old.stopped }
         requires finished { AllFinished (view_of (M.view self.old.mount) self.old.lines) }
-        requires room { 0 < (M.view self.old.mount).spare }
+        requires room { HasRoom (M.view self.old.mount) self.old.lines self.old.sessions.items }
         ensures turn { TakesUnmountTurn (view_of (M.view self.old.mount) self.old.lines) result (view_of (M.view self.new.mount) self.new.lines) }
         ensures kept { (o : World) → Facts M.built o (M.kept o self.old.mount) (M.view self.old.mount) self.old.lines self.old.sessions.items self.old.stopped
             → Facts M.built o (M.kept o self.new.mount) (M.view self.new.mount) self.new.lines self.new.sessions.items self.new.stopped }
-        ensures room { length (M.view self.new.mount).history + (M.view self.new.mount).spare ≡ length (M.view self.old.mount).history + (M.view self.old.mount).spare }
+        ensures room { HasRoom (M.view self.new.mount) self.new.lines self.new.sessions.items }
+        ensures logging { (M.view self.new.mount).logging ≡ (M.view self.old.mount).logging }
+        ensures order { (before : ℕ) → TellsInOrder before (M.view self.old.mount) (script_lines self.old.lines (M.view self.old.mount).history) → TellsInOrder before (M.view self.new.mount) (script_lines self.new.lines (M.view self.new.mount).history) }
         ensures less { result ≡ Turned → work_of M.per_call (M.owed self.new.mount) (script_lines self.new.lines (M.view self.new.mount).history) self.new.sessions.items < work_of M.per_call (M.owed self.old.mount) (script_lines self.old.lines (M.view self.old.mount).history) self.old.sessions.items }
     {
         // The proof rests on these laws; nothing runs here.

@@ -4,7 +4,9 @@
 mod calls;
 mod engine;
 mod session;
+mod turns;
 
 pub use calls::{Calls, Performed};
 pub use engine::Core;
 pub use session::{Session, UnderWay};
+pub use turns::{line_count, new_sessions};

@@ -1,6 +1,6 @@
 use Rattle.std.proofs.Common.{arith}
 use Rattle.vx_core.proofs.ScriptLines.{length_script}
-use Rattle.vx_core.proofs.engine.Core.sessions.Goals as goal
+use Rattle.vx_core.proofs.engine.Core.session_count.Goals as goal
 
 pub returns : goal.returns
 returns g c =
