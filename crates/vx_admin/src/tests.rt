@@ -6,10 +6,19 @@ use std::alloc::{AllocError, Global};
 use std::test::Fail;
 use vx_base::{MemSink, NumList, SectorNo};
 use vx_dev::{BlockDev, Image, MemDisk};
-use vx_kernel::{Journal, format};
+use vx_layout::Super;
+use vx_log::{Batch, Log};
+use vx_mkfs::make;
 
 /// The operations of a format, and of one transaction that changes one sector.
 const STOPPED: u64 = 75;
+
+/// The superblock of a new file system while it is mounted.
+const MOUNTED: Super = Super {
+    log_blocks: 512,
+    units: 1,
+    clean: false,
+};
 
 /// A disk of zeros that fails these writes and barriers, and these reads.
 fn disk(alloc: Global, fail_writes: &[u64], fail_reads: &[u64]) -> Result<MemDisk, AllocError>
@@ -28,11 +37,11 @@ fn disk(alloc: Global, fail_writes: &[u64], fail_reads: &[u64]) -> Result<MemDis
 /// A new file system with one transaction, which is not unmounted.
 fn stopped(alloc: Global, fail_writes: &[u64], fail_reads: &[u64]) -> Result<MemDisk, Fail> {
     let mut disk = disk(alloc, fail_writes, fail_reads)?;
-    let mut journal = Journal::new(alloc)?;
-    format(&mut disk)?;
-    let mut batch = journal.take_ready();
+    make(&mut disk, &MOUNTED)?;
+    let mut log = Log::fresh(alloc, MOUNTED.log_blocks)?;
+    let mut batch = Batch::new(alloc)?;
     batch.set(SectorNo::new(1031), &[7; 512]);
-    journal.commit(&mut disk, batch)?;
+    log.commit(&mut disk, batch)?;
     Ok(disk)
 }
 
@@ -74,7 +83,7 @@ fn replay_and_again(rt: HostRuntime) -> Result<(), Fail> {
 #[test]
 fn no_head_sector(rt: HostRuntime) -> Result<(), Fail> {
     let mut disk = disk(rt.alloc(), &[], &[])?;
-    format(&mut disk)?;
+    make(&mut disk, &MOUNTED)?;
     disk.write(2, &[0; 512])?;
     let seen = check(rt.alloc(), &["fsck", "disk.img"], 64, disk)?;
     assert!(rt; ended(&seen, 2, b"refused 2 BadLog 2\n", 71));

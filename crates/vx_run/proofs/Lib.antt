@@ -1,14 +1,5 @@
-pub mod Ending
 pub mod Reading
 pub mod Scripts
-pub mod Carrying
-pub mod Replying
-pub mod Refusing
-pub mod Histories
-pub mod Coming
-pub mod Crashing
-pub mod FaultOrder
-pub mod Releasing
-pub mod Bases
-pub mod Asking
-pub mod Noting
+pub mod Mounting
+pub mod Finishing
+pub mod Founding

@@ -1,15 +1,19 @@
 -- What a script that was read asks for.
-use Rattle.std.proofs.Common.{◌≡◌, ℕ, ◌<◌, ◌≤◌, true, false, nat_lt, nat_le, List, [], ◌∷◌, ◌++◌, length, take, Option, Some, None, Err, refl, sym, ◌∙◌, ap, inl, inr, arith, length-append}
+use Rattle.std.proofs.Common.{◌≡◌, ◌≢◌, ℕ, zero, suc, ◌+◌, ◌<◌, ◌≤◌, Bool, true, false, ◌&&◌, nat_lt, nat_le, List, [], ◌∷◌, ◌++◌, length, take, get_or, Option, Some, None, Result, Ok, Err, refl, sym, ◌∙◌, ap, subst, inl, inr, arith, codes, if◌then◌else◌}
 use Rattle.std.specs.Prelude.{All, IfSome, slice_get, unwrap_or, sum_by}
-use Rattle.std.proofs.lemmas.Bool.{cases_lt}
+use Rattle.std.specs.Str.{bytes_eq}
+use Rattle.std.proofs.lemmas.Bool.{cases_lt, cases_eq}
 use Rattle.std.proofs.lemmas.Bool.Decides.{nat_tests}
-use Rattle.std.proofs.lemmas.List.{take_all, length-take}
-use Rattle.std.proofs.lemmas.List.Elements.{All-nil}
-use Rattle.std.proofs.lemmas.List.Sums.{sum_by-cons}
+use Rattle.std.proofs.lemmas.List.{take_all, take_more, length-take}
+use Rattle.std.proofs.lemmas.List.Sums.{sum_by-append}
+use Rattle.std.proofs.lemmas.Option.{slice_get_past, slice_get_within, get_or_from_slice_get, unwrap_or-slice_get}
 use Rattle.vx_base.specs.declared.call.Call.{Call}
 use Rattle.vx_base.specs.declared.call.Call.TheVariants as call
-use Rattle.vx_base.specs.Fits.{fits}
-use Rattle.vx_base.specs.Lines.{lines_of}
+use Rattle.vx_base.specs.declared.mode.Logging.{Logging}
+use Rattle.vx_base.specs.declared.mode.Logging.TheVariants as logging
+use Rattle.vx_base.specs.Lines.{lines_of, line_after}
+use Rattle.vx_core.specs.Facts as core
+use Rattle.vx_core.specs.Works.{sum_below, line_count}
 use Rattle.vx_dev.specs.Tape as dev
 use Rattle.vx_grammar.specs.declared.script.Script.{Script}
 use Rattle.vx_grammar.specs.declared.why.ScriptRefusal.{ScriptRefusal}
@@ -18,15 +22,31 @@ use Rattle.vx_grammar.specs.Forms.{name_of, IsScriptCall}
 use Rattle.vx_grammar.specs.Keywords.{is_built}
 use Rattle.vx_grammar.specs.Readings.{reading_of, most_bytes}
 use Rattle.vx_grammar.specs.Scripts.{IsScript, IsScriptIn, IsBadOrder, IsRefusedFor}
-use Rattle.vx_model.specs.Legal.{is_stop}
 use Rattle.vx_model.specs.Step.{has_step}
-use Rattle.vx_script.specs.Start.{start_of}
+use Rattle.vx_modes.specs.declared.options.Options.{Options}
+use Rattle.vx_modes.specs.declared.options.OptionRefusal.{OptionRefusal}
+use Rattle.vx_modes.specs.declared.options.OptionRefusal.TheVariants as options
+use Rattle.vx_modes.specs.Parse.{options_of}
+use Rattle.vx_script.specs.Start.{start_of, start_of_options}
 use Rattle.vx_script.specs.declared.start.StartRefusal.{StartRefusal}
 use Rattle.vx_script.specs.declared.start.StartRefusal.TheVariants as start
 use Rattle.vx_txn.specs.Calls.{HasMode}
-use Rattle.vx_run.specs.Words.{are_words}
+use Rattle.vx_run.specs.Words.{logging_of, logging_asked}
+use Rattle.vx_run.specs.Mounted.{IsBuilt}
 use Rattle.vx_run.specs.Reads.{HasRead}
 use Rattle.vx_run.specs.Ends.{Setting, Asks, HasBadLine, IsUnasked, HasEnded, refused}
+
+abbrev failed : StartRefusal → Result Logging StartRefusal
+failed why = Err why
+
+bad_words : (s : Setting) (faults : ℕ) (why : StartRefusal) → failed start.BadWords ≡ Err why → logging_asked s.words ≡ Err why → IsUnasked s faults why
+bad_words s faults start.BadWords same is = is
+bad_words s faults why same is = absurd (cc)
+
+bad_option : (s : Setting) (faults : ℕ) (e : OptionRefusal) (why : StartRefusal) → failed (start_of_options e) ≡ Err why → logging_asked s.words ≡ Err why → IsUnasked s faults why
+bad_option s faults (options.BadOption at) (start.BadOption n) same is = is
+bad_option s faults (options.Twice name) (start.Twice n) same is = is
+bad_option s faults e why same is = absurd (cc)
 
 -- ---- what was read of the source says what the whole script says
 
@@ -60,17 +80,19 @@ bad_order_read : (left : Option (List ℕ)) (line : ℕ) (bytes : List ℕ) → 
 bad_order_read None line bytes h is = tt
 bad_order_read (Some all) line bytes h is = record { reading = is.reading; read = same_reading all bytes h ∙ is.read; lowest = is.lowest }
 
-pub asks_of : (s : Setting) (bytes : List ℕ) (script : Script) → are_words s.words ≡ true → HasRead s.script bytes → IsScriptIn bytes script → Asks s script
-asks_of s bytes script words h is = record { words = words; read = script_read s.script bytes script h is; form = is.says.form }
+pub asks_of : (s : Setting) (mode : Logging) (bytes : List ℕ) (script : Script) → logging_asked s.words ≡ Ok mode → HasRead s.script bytes → IsScriptIn bytes script → Asks s mode script
+asks_of s mode bytes script words h is = record { words = words; read = script_read s.script bytes script h is; form = is.says.form }
 
-pub unasked_of : (s : Setting) (faults : ℕ) (bytes : List ℕ) (why : ScriptRefusal) → are_words s.words ≡ true → HasRead s.script bytes → IsRefusedFor bytes why → IsUnasked s faults (start_of why)
-unasked_of s faults bytes no.TooLong words h is = (words, refusal_read s.script bytes no.TooLong h is)
-unasked_of s faults bytes (no.BadLine line why) words h is = (words, bad_line_read s.script line bytes h (why, is))
-unasked_of s faults bytes (no.BadOrder line) words h is = (words, bad_order_read s.script line bytes h is)
-unasked_of s faults bytes no.NoMemory words h is = words
+pub unasked_of : (s : Setting) (mode : Logging) (faults : ℕ) (bytes : List ℕ) (why : ScriptRefusal) → logging_asked s.words ≡ Ok mode → HasRead s.script bytes → IsRefusedFor bytes why → IsUnasked s faults (start_of why)
+unasked_of s mode faults bytes no.TooLong words h is = ((mode, words), refusal_read s.script bytes no.TooLong h is)
+unasked_of s mode faults bytes (no.BadLine line why) words h is = ((mode, words), bad_line_read s.script line bytes h (why, is))
+unasked_of s mode faults bytes (no.BadOrder line) words h is = ((mode, words), bad_order_read s.script line bytes h is)
+unasked_of s mode faults bytes no.NoMemory words h is = (mode, words)
 
 pub ended_unasked : (s : Setting) (d : dev.State) (faults : ℕ) (why : StartRefusal) → IsUnasked s faults why → d ≡ s.device → HasEnded s d faults (refused why)
 ended_unasked s d faults start.BadWords h same = (h, same)
+ended_unasked s d faults (start.BadOption at) h same = (h, same)
+ended_unasked s d faults (start.Twice name) h same = (h, same)
 ended_unasked s d faults start.TooLong h same = (h, same)
 ended_unasked s d faults (start.BadLine line) h same = (h, same)
 ended_unasked s d faults (start.BadOrder line) h same = (h, same)
@@ -78,6 +100,23 @@ ended_unasked s d faults start.ScriptFault h same = (h, same)
 ended_unasked s d faults start.NoMemory h same = (h, same)
 ended_unasked s d faults (start.DeviceTooSmall have want) h same = absurd h
 ended_unasked s d faults start.WriteFault h same = absurd h
+
+-- ---- words that ask for no mode
+
+pub unasked_words : (s : Setting) (faults : ℕ) (words : List (List ℕ)) (why : StartRefusal) → s.words ≡ words → logging_asked words ≡ Err why → IsUnasked s faults why
+unfolding logging_asked
+unasked_words s faults (verb ∷ image ∷ []) why same is = by_verb (bytes_eq verb (codes "fresh")) why is (ap logging_asked same ∙ is)
+  where
+    by_verb : (b : Bool) (w : StartRefusal) → (if b then Ok logging.DelayLog else Err start.BadWords) ≡ Err w → logging_asked s.words ≡ Err w → IsUnasked s faults w
+    by_verb true w wrong asked = absurd (cc)
+    by_verb false w wrong asked = bad_words s faults w wrong asked
+unasked_words s faults (verb ∷ image ∷ option ∷ list ∷ []) why same is = by_verb (bytes_eq verb (codes "fresh") && bytes_eq option (codes "-o")) (options_of list) why is (ap logging_asked same ∙ is)
+  where
+    by_verb : (b : Bool) (o : Result Options OptionRefusal) (w : StartRefusal) → (if b then logging_of o else Err start.BadWords) ≡ Err w → logging_asked s.words ≡ Err w → IsUnasked s faults w
+    by_verb true (Ok options) w wrong asked = absurd (cc)
+    by_verb true (Err e) w wrong asked = bad_option s faults e w wrong asked
+    by_verb false o w wrong asked = bad_words s faults w wrong asked
+unasked_words s faults words why same is = bad_words s faults why is (ap logging_asked same ∙ is)
 
 -- ---- the calls of a script
 
@@ -97,51 +136,75 @@ built (call.After session lines) h = refl
 built call.Stop h = refl
 built _ h = absurd cc
 
-goes_on : (c : Call) → is_built (name_of c) ≡ true → is_stop c ≡ false
-goes_on call.Stop h = absurd cc
-goes_on _ h = refl
-
 has_mode : (sessions : ℕ) (c : Call) → IsScriptCall sessions c → HasMode c
 has_mode sessions (call.Create path mode) is = let test : nat_le mode 4095 ≡ true = is.range in grind (arith, nat_tests)
 has_mode sessions (call.Mkdir path mode) is = let test : nat_le mode 4095 ≡ true = is.range in grind (arith, nat_tests)
 has_mode sessions (call.Chmod path mode) is = let test : nat_le mode 4095 ≡ true = is.range in grind (arith, nat_tests)
 has_mode sessions _ is = tt
 
--- ---- the one session of a script
+-- ---- the lines of a script
 
-first_all : (P : Call → Type 0) (lines : List (List Call)) → All (λ calls. All P calls) lines → All P (lines_of lines 0)
+each_line : (lines : List (List Call)) (P : Call → Type 0) → All (λ calls. All P calls) lines → (s n : ℕ) (c : Call) → line_after lines s n ≡ Some c → P c
+unfolding line_after lines_of
+each_line lines P all s n c is = by_session (slice_get lines s) refl is
+  where
+    by_session : (o : Option (List Call)) → slice_get lines s ≡ o → slice_get (unwrap_or o []) n ≡ Some c → P c
+    by_session None e there = absurd (let within = slice_get_within [] n c there in omega arith)
+    by_session (Some calls) e there =
+        let own : All P calls = subst (λ (cs : List Call). All P cs) (get_or_from_slice_get lines s calls calls e) (all s calls (slice_get_within lines s calls e)) in
+        subst P (get_or_from_slice_get calls n c c there) (own n c (slice_get_within calls n c there))
+
+-- the sum over the first sessions
+sum_first : (lines : List (List Call)) (n : ℕ) → n ≤ length lines → sum_below (λ s. length (lines_of lines s)) n ≡ sum_by (λ calls. length calls) (take n lines)
 unfolding lines_of
-first_all P [] all = All-nil P
-first_all P (calls ∷ lines) all = all 0 [] (omega arith)
+sum_first lines zero le = refl
+sum_first lines (suc n) le =
+    let rest = sum_first lines n (omega arith) in
+    let here : take (n + 1) lines ≡ take n lines ++ get_or lines n [] ∷ [] = take_more lines n [] (omega arith) in
+    let next : n + 1 ≡ suc n = omega arith in
+    let split = sum_by-append (λ (calls : List Call). length calls) (take n lines) (get_or lines n [] ∷ []) in
+    let same : unwrap_or (slice_get lines n) [] ≡ get_or lines n [] = unwrap_or-slice_get lines n [] in
+    let long : length (unwrap_or (slice_get lines n) []) ≡ length (get_or lines n []) = ap (λ (cs : List Call). length cs) same in
+    let all : sum_by (λ calls. length calls) (take (suc n) lines) ≡ sum_by (λ calls. length calls) (take n lines) + length (get_or lines n []) = ap (λ k. sum_by (λ calls. length calls) (take k lines)) (sym next) ∙ ap (sum_by (λ calls. length calls)) here ∙ split ∙ one_more (sum_by (λ calls. length calls) (take n lines)) (length (get_or lines n [])) in
+    omega arith
+  where
+    one_more : (a b : ℕ) → a + (0 + b) ≡ a + b
+    one_more a b = omega arith
 
-first_few : (lines : List (List Call)) → length (lines_of lines 0) ≤ sum_by (λ calls. length calls) lines
+-- no session has more lines than all have
+one_of_all : (lines : List (List Call)) (s n : ℕ) → s < n → length (lines_of lines s) ≤ sum_below (λ t. length (lines_of lines t)) n
+one_of_all lines s zero lt = absurd (omega arith)
+one_of_all lines s (suc n) lt = elim (cases_eq n s) [
+  | inl same ↦ (let here : length (lines_of lines s) ≡ length (lines_of lines n) = ap (λ t. length (lines_of lines t)) (sym same) in omega arith)
+  | inr other ↦ (let apart : n ≢ s = other in let rest = one_of_all lines s n (omega arith) in omega arith)
+]
+
+no_lines : (lines : List (List Call)) (s : ℕ) → length lines ≤ s → length (lines_of lines s) ≡ 0
 unfolding lines_of
-first_few [] = omega arith
-first_few (calls ∷ lines) = omega (arith, sum_by-cons (λ (cs : List Call). length cs) calls lines)
+no_lines lines s ge = ap (λ (o : Option (List Call)). length (unwrap_or o [])) (slice_get_past lines s ge)
 
--- a list of one session
-pub single : (old new : List (List Call)) (calls : List Call) → length old ≤ 1 → old ≡ new ++ calls ∷ [] → calls ≡ lines_of old 0
-unfolding lines_of
-single old [] calls few is = sym (ap (λ (l : List (List Call)). unwrap_or (slice_get l 0) []) is)
-single old (x ∷ xs) calls few is = absurd (omega (arith, few, ap (λ (l : List (List Call)). length l) is, length-append xs (calls ∷ [])))
+module _ (script : Script) (is : IsScript script) where
+  pub all_lines : line_count script.lines ≤ 65535
+  unfolding line_count
+  all_lines =
+      let sum = sum_first script.lines (length script.lines) (omega arith) in
+      let all : sum_by (λ calls. length calls) (take (length script.lines) script.lines) ≡ sum_by (λ calls. length calls) script.lines = ap (sum_by (λ calls. length calls)) (take_all (length script.lines) script.lines (omega arith)) in
+      let few = is.few_calls in
+      omega arith
 
-pub no_session : (lines : List (List Call)) → lines ≡ [] → lines_of lines 0 ≡ []
-unfolding lines_of
-no_session lines none = ap (λ (l : List (List Call)). unwrap_or (slice_get l 0) []) none
+  pub short_lines : (s : ℕ) → length (lines_of script.lines s) < 65536
+  unfolding line_count
+  short_lines s = elim (cases_lt s (length script.lines)) [
+    | inl lt ↦ (let one = one_of_all script.lines s (length script.lines) lt in let all : sum_below (λ t. length (lines_of script.lines t)) (length script.lines) ≤ 65535 = all_lines in omega arith)
+    | inr ge ↦ (let none = no_lines script.lines s (omega arith) in omega arith)
+  ]
 
-module _ (script : Script) (is : IsScript script) (calls : List Call) (are : calls ≡ lines_of script.lines 0) where
-  own : All (IsScriptCall script.sessions) calls
-  own = rw are (first_all (IsScriptCall script.sessions) script.lines is.each)
+  pub few_sessions : length script.lines ≤ 16
+  few_sessions = let few = is.few_sessions in let count = is.count in omega arith
 
-  pub few_calls : length calls ≤ 65535
-  few_calls = omega (arith, is.few_calls, first_few script.lines, ap (λ (cs : List Call). length cs) are)
-
-  pub all_built : All (λ c. has_step c ≡ true) calls
-  all_built = λ k d lt. built _ (own k d lt).built
-
-  pub all_go_on : All (λ c. is_stop c ≡ false) calls
-  all_go_on = λ k d lt. goes_on _ (own k d lt).built
-
-  -- each mode in a script is one that an inode can have
-  pub all_modes : All HasMode calls
-  all_modes = λ k d lt. has_mode script.sessions _ (own k d lt)
+  pub core_script : core.IsScript IsBuilt script.lines
+  core_script = record {
+    order = is.ordered;
+    each = λ s n c there. (let own : IsScriptCall script.sessions c = each_line script.lines (IsScriptCall script.sessions) is.each s n c there in (built c own.built, has_mode script.sessions c own));
+    short = short_lines;
+  }

@@ -1,29 +1,32 @@
 -- How a run ends, and why.
-use Rattle.std.specs.Prelude.{◌≡◌, ◌<◌, ◌≤◌, ◌+◌, ℕ, Bool, true, false, List, [], Option, Err, IfSome, is_some, not, if◌then◌else◌, All}
+use Rattle.std.specs.Prelude.{◌≡◌, ◌⊎◌, ◌<◌, ◌≤◌, ◌+◌, ℕ, Bool, true, false, ◌&&◌, List, [], Option, Some, None, Ok, Err, IfSome, is_some, not, if◌then◌else◌, All}
 use Rattle.std.specs.Io.KnownBytes.{Appends}
+use Rattle.vx_base.specs.declared.call.Call.{Call}
 use Rattle.vx_base.specs.declared.event.Event.{Event}
+use Rattle.vx_base.specs.declared.mode.Logging.{Logging}
 use Rattle.vx_base.specs.Faults.{Rose}
-use Rattle.vx_base.specs.Lines.{lines_of}
+use Rattle.vx_dev.specs.Moments.{Told, Always}
 use Rattle.vx_dev.specs.Tape as dev
-use Rattle.vx_script.specs.declared.start.StartRefusal.{StartRefusal}
-use Rattle.vx_script.specs.declared.start.StartRefusal.TheVariants as start
-use Rattle.vx_grammar.specs.declared.script.Script.{Script}
-use Rattle.vx_grammar.specs.declared.why.Why.{Why}
-use Rattle.vx_grammar.specs.declared.why.ScriptRefusal.TheVariants as no
 use Rattle.vx_grammar.specs.Readings.{reading_of}
 use Rattle.vx_grammar.specs.Scripts.{IsScript, IsScriptIn, IsBadOrder}
-use Rattle.vx_script.specs.Start.{status_of, refused_text}
+use Rattle.vx_grammar.specs.declared.script.Script.{Script}
+use Rattle.vx_grammar.specs.declared.why.ScriptRefusal.TheVariants as no
+use Rattle.vx_grammar.specs.declared.why.Why.{Why}
+use Rattle.vx_layout.specs.declared.superblock.Super.{Super}
+use Rattle.vx_model.specs.Allowed.{IsAllowed}
+use Rattle.vx_model.specs.Legal.{World, Phase, Legal, opening, unmounted, at_of, after_all}
+use Rattle.vx_model.specs.Replays.{IsLeft}
+use Rattle.vx_model.specs.State.{fresh_of}
+use Rattle.vx_mount.specs.Cores.{CoreView, IsDriven, IsUnmounted}
+use Rattle.vx_mount.specs.Runs.{AnswersLines}
+use Rattle.vx_mount.specs.Sessions.{is_stopped}
+use Rattle.vx_core.specs.Faults.{TellsNoFault, StopsAt}
 use Rattle.vx_script.specs.Output.{output_of}
 use Rattle.vx_script.specs.Puts.{AppendsPrefix}
-use Rattle.vx_run.specs.Words.{are_words}
-use Rattle.vx_dev.specs.Moments.{Told, Always}
-use Rattle.vx_base.specs.declared.mode.Logging.TheVariants as logging
-use Rattle.vx_model.specs.Allowed.{IsAllowed}
-use Rattle.vx_model.specs.Legal.{after_all}
-use Rattle.vx_model.specs.Replays.{IsLeft}
-use Rattle.vx_run.specs.Faults.{EndInOrder}
-use Rattle.vx_run.specs.declared.engine.Opened.{Opened}
-use Rattle.vx_run.specs.Cores.{beginning, CameBetween, IsEnded, is_unmounted, IsOfLines}
+use Rattle.vx_script.specs.Start.{status_of, refused_text}
+use Rattle.vx_script.specs.declared.start.StartRefusal.{StartRefusal}
+use Rattle.vx_script.specs.declared.start.StartRefusal.TheVariants as start
+use Rattle.vx_run.specs.Words.{logging_asked}
 
 -- what a run is given: its words, its script where the source tells it, its device, and the source's faults so far
 pub record Setting : Type 0 where
@@ -32,79 +35,139 @@ pub record Setting : Type 0 where
   pub device : dev.State
   pub script_faults : ℕ
 
--- the sectors that a file system of one unit needs
+-- ---- where a run begins
+
+-- the superblock of every new file system, while it is mounted
+abbrev pub new_super : Super
+new_super = record { log_blocks = 512; units = 1; clean = false }
+
+-- the sectors that it needs
 abbrev pub sectors_needed : ℕ
 sectors_needed = 9220
 
--- the operations of a format
+-- the operations of its format
 abbrev pub format_ops : ℕ
 format_ops = 70
 
--- the device as the run begins
-abbrev pub opened_on : dev.State → Opened
-opened_on d = record { operations = d.count; sectors = d.size }
+-- the device's operations when its history begins
+abbrev pub first_of : Setting → ℕ
+first_of s = s.device.count + format_ops
 
--- how a run ends: it is refused before the first call, or it answers all lines, disabled by a failed write or not
+-- a new file system, whose directories have one block at most
+abbrev pub beginning : Setting → World
+beginning s = opening (first_of s) (fresh_of new_super 1 s.device.size)
+
+-- ---- what it does
+
+-- how a run ends: it is refused before the first turn, or it takes the turns of its sessions, disabled by a failed write or not
 pub data End : Type 0 where
   refused : (why : StartRefusal) → End
   finished : (disabled : Bool) (history : List Event) → End
 
--- The words are good, and the script is one that is read of the bytes, where these are told.
-pub record Asks (s : Setting) (script : Script) : Type 0 where
-  pub words : are_words s.words ≡ true
+-- The words ask for this mode, and the script is one that is read of the bytes, where these are told.
+pub record Asks (s : Setting) (mode : Logging) (script : Script) : Type 0 where
+  pub words : logging_asked s.words ≡ Ok mode
   pub read : IfSome s.script (λ bytes. IsScriptIn bytes script)
   pub form : IsScript script
+
+-- the words ask for some mode
+abbrev pub HasMode : Setting → Type 0
+HasMode s = (mode : Logging) × (logging_asked s.words ≡ Ok mode)
 
 abbrev pub HasBadLine : ℕ → List ℕ → Type 0
 HasBadLine line bytes = (why : Why) × (reading_of bytes ≡ Err (no.BadLine line why))
 
 -- why a run is not begun, by its words and its script
 abbrev pub IsUnasked : Setting → ℕ → StartRefusal → Type 0
-IsUnasked s faults start.BadWords = are_words s.words ≡ false
-IsUnasked s faults start.TooLong = (are_words s.words ≡ true) × IfSome s.script (λ bytes. reading_of bytes ≡ Err no.TooLong)
-IsUnasked s faults (start.BadLine line) = (are_words s.words ≡ true) × IfSome s.script (HasBadLine line)
-IsUnasked s faults (start.BadOrder line) = (are_words s.words ≡ true) × IfSome s.script (λ bytes. IsBadOrder bytes line)
-IsUnasked s faults start.ScriptFault = (are_words s.words ≡ true) × Rose s.script_faults faults
-IsUnasked s faults start.NoMemory = are_words s.words ≡ true
+IsUnasked s faults start.BadWords = logging_asked s.words ≡ Err start.BadWords
+IsUnasked s faults (start.BadOption at) = logging_asked s.words ≡ Err (start.BadOption at)
+IsUnasked s faults (start.Twice name) = logging_asked s.words ≡ Err (start.Twice name)
+IsUnasked s faults start.TooLong = HasMode s × IfSome s.script (λ bytes. reading_of bytes ≡ Err no.TooLong)
+IsUnasked s faults (start.BadLine line) = HasMode s × IfSome s.script (HasBadLine line)
+IsUnasked s faults (start.BadOrder line) = HasMode s × IfSome s.script (λ bytes. IsBadOrder bytes line)
+IsUnasked s faults start.ScriptFault = HasMode s × Rose s.script_faults faults
+IsUnasked s faults start.NoMemory = HasMode s
 IsUnasked s faults _ = ⊥
 
 -- the device is too small
 pub record IsTooSmall (s : Setting) (have want : ℕ) : Type 0 where
+  pub mode : Logging
   pub script : Script
-  pub asks : Asks s script
+  pub asks : Asks s mode script
   pub have_is : have ≡ s.device.size
   pub want_is : want ≡ sectors_needed
   pub small : s.device.size < sectors_needed
 
 -- the format failed
 pub record IsUnformatted (s : Setting) (d : dev.State) : Type 0 where
+  pub mode : Logging
   pub script : Script
-  pub asks : Asks s script
+  pub asks : Asks s mode script
   pub size : sectors_needed ≤ s.device.size
   pub rose : Rose s.device.write_faults d.write_faults
-  pub fewer : d.count < s.device.count + format_ops
+  pub fewer : d.count < first_of s
 
--- A run that was begun: its history is legal from a new file system on, its calls are the lines of the script's one session in order,
--- all of them, and each is answered; it ends unmounted exactly where no write failed, and no call is answered a fault before the failed write,
--- nor otherwise behind it. Each event came at a moment from the end of the format to the end of the run. Where the device tells its
--- operations, each image that a crash may leave at any of these moments is one that the history allows; and unmounted, the one image
--- is clean and reads as the history's final tree.
+-- the sessions whose turns come first
+abbrev pub schedule_of : Option (List ℕ) → List ℕ
+schedule_of None = []
+schedule_of (Some actors) = actors
+
+abbrev pub begun_view : Setting → List (List Call) → CoreView
+begun_view s lines = record { lines = lines; history = []; count = first_of s; locks = []; disabled = false }
+
+-- The turns by the script's schedule, and then of all sessions round and round until all are finished, and those of the unmount lead
+-- to this history.
+pub record IsTaken (s : Setting) (script : Script) (d : dev.State) (disabled : Bool) (history : List Event) : Type 0 where
+  pub middle : CoreView
+  pub driven : IsDriven (begun_view s script.lines) (schedule_of script.schedule) middle
+  pub end : CoreView
+  pub left : IsUnmounted middle end
+  pub history_is : end.history ≡ history
+  pub count_is : end.count ≡ d.count
+  pub disabled_is : end.disabled ≡ disabled
+
+-- Where the faults of the device are told: nowhere, or one call is answered WriteFault at the operation that failed and all that come
+-- behind it are Disabled; or the fault came in the unmount, which answers no call.
+abbrev pub AreInOrder : Option ℕ → dev.State → List Event → Type 0
+AreInOrder None d history = All TellsNoFault history
+AreInOrder (Some faults) d history = (faults ≡ d.write_faults) × (StopsAt faults d.count history ⊎ All TellsNoFault history)
+
+-- an event came when the device had done so many operations
+abbrev pub CameBetween : (from to : ℕ) → Event → Type 0
+CameBetween from to e = (from ≤ at_of e) × (at_of e ≤ to)
+
+abbrev pub is_unmounted_phase : Phase → Bool
+is_unmounted_phase unmounted = true
+is_unmounted_phase _ = false
+
+-- whether the file system was left clean
+abbrev pub is_unmounted : World → List Event → Bool
+is_unmounted o history = is_unmounted_phase (after_all o history).phase
+
+-- A run that was begun. Its history is legal from a new file system on, and comes from the turns of its sessions; without a stop each
+-- session's lines are all answered, from the first, in order. It ends unmounted exactly where it was neither stopped nor disabled by a
+-- failed write, and the faults of the device are told in order. Each event came at a moment from the end of the format to the end of
+-- the run. Where the device tells its operations, each image that a crash may leave at any of these moments is one that the history
+-- allows in the mode; and unmounted, the one image is clean and reads as the history's final tree.
 pub record IsFinished (s : Setting) (d : dev.State) (disabled : Bool) (history : List Event) : Type 0 where
+  pub mode : Logging
   pub script : Script
-  pub asks : Asks s script
-  pub lines : IsOfLines history (lines_of script.lines 0)
+  pub asks : Asks s mode script
   pub size : sectors_needed ≤ s.device.size
-  pub ended : IsEnded (opened_on s.device) history
-  pub unmounted : is_unmounted (opened_on s.device) history ≡ not disabled
+  pub legal : Legal (beginning s) history
+  pub taken : IsTaken s script d disabled history
+  pub answers : AnswersLines script.lines history
+  pub ended_by : is_unmounted (beginning s) history ≡ (not disabled && not (is_stopped history))
+  pub never_both : disabled ≡ true → is_stopped history ≡ false
   pub count : Option ℕ
   pub count_is : disabled ≡ is_some count
-  pub faults : EndInOrder count d history
+  pub faults : AreInOrder count d history
   pub fine : disabled ≡ false → d.write_faults ≡ s.device.write_faults
   pub rose : disabled ≡ true → Rose s.device.write_faults d.write_faults
-  pub formatted : s.device.count + format_ops ≤ d.count
-  pub came : All (CameBetween (s.device.count + format_ops) d.count) history
-  pub crash : Told d (Always (s.device.count + format_ops) (IsAllowed logging.Log (beginning (opened_on s.device)) history))
-  pub clean : disabled ≡ false → Told d (IsLeft s.device.size (after_all (beginning (opened_on s.device)) history).state.tree)
+  pub formatted : first_of s ≤ d.count
+  pub came : All (CameBetween (first_of s) d.count) history
+  pub crash : Told d (Always (first_of s) (IsAllowed mode (beginning s) history))
+  pub clean : is_unmounted (beginning s) history ≡ true → Told d (IsLeft s.device.size (after_all (beginning s) history).state.tree)
 
 -- the cause of each end
 abbrev pub HasEnded : Setting → dev.State → ℕ → End → Type 0

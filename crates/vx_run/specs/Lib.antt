@@ -1,6 +1,6 @@
-pub mod Cores
-pub mod Faults
 pub mod Words
 pub mod Reads
+pub mod Mounted
 pub mod Ends
+pub mod Memories
 pub mod Outcomes

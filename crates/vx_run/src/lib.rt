@@ -1,9 +1,10 @@
 //! The top call: a script over a device, from its words to the replies and the image.
 #![tactic(auto)]
 
-mod engine;
 mod gate;
 mod laws;
+mod memory;
+mod mounted;
 mod outcome;
 mod read;
 mod top;
@@ -11,6 +12,7 @@ mod words;
 
 pub use gate::{Gate, OpenGate};
 pub use laws::replays_once;
+pub use mounted::Mounted;
 pub use top::{Ran, run};
 
 #[cfg(test)]

@@ -4,7 +4,7 @@ use std::alloc::{AllocError, Global};
 use std::sync::Wait;
 use std::test::Fail;
 use std::thread::Threads;
-use vx_base::{Bytes, Event, History, MemSink, MemSource, NumList};
+use vx_base::{Bytes, Call, Event, History, MemSink, MemSource, NumList, Reply};
 use vx_dev::{BlockDev, FuseDev, Image, MemDisk, Operation, pick_image};
 
 const SECTORS: u64 = 9_220;
@@ -19,10 +19,9 @@ const EXAMPLE: &[u8] = b"sessions 1\n0 create /a 644\n0 list /\n0 create /a 600\
 
 const ONE_CREATE: &[u8] = b"sessions 1\n0 create /a 644\n0 list /\n";
 
-const TEN_CREATES: &[u8] =
-    b"sessions 1\n0 create /a 644\n0 create /b 644\n0 create /c 644\n0 create /d 644\n0 create /e 644\n0 create /f 644\n0 create /g 644\n0 create /h 644\n0 create /i 644\n0 create /j 644\n";
-
-const TEN_NAMES: &[u8] = b"abcdefghij";
+/// Two sessions make names, and the second one removes one of them by a rename.
+const TWO_SESSIONS: &[u8] =
+    b"sessions 2\nschedule 1 1 0 1 0 0 0\n0 create /a 644\n1 create /b 644\n1 create /c 644\n0 create /d 644\n0 create /e 644\n1 create /f 644\n1 after 0 3\n0 create /g 644\n1 create /h 644\n";
 
 /// What a test looks at.
 #[derive(Drop)]
@@ -33,12 +32,18 @@ struct Seen<D: Drop> {
     out: MemSink,
 }
 
-fn words(alloc: Global) -> Result<Vec<String>, AllocError> {
-    let mut words = Vec::new(alloc);
-    for word in ["fresh", "disk.img", "-o", "log"] {
-        words.push(String::from_str(alloc, word)?)?;
+/// Each call that changes names is committed before it returns.
+const LOG: &[&str] = &["fresh", "disk.img", "-o", "log"];
+
+/// It may be committed later.
+const DELAYED: &[&str] = &["fresh", "disk.img"];
+
+fn strings(alloc: Global, words: &[&str]) -> Result<Vec<String>, AllocError> {
+    let mut list = Vec::new(alloc);
+    for word in words {
+        list.push(String::from_str(alloc, word)?)?;
     }
-    Ok(words)
+    Ok(list)
 }
 
 /// A disk of zeros that fails these calls of `write` and `barrier`.
@@ -57,6 +62,7 @@ fn disk(alloc: Global, sectors: u64, fail_writes: &[u64]) -> Result<MemDisk, All
 fn run_on<R: Threads + Wait + Sync, D: BlockDev + Send + Drop>(
     rt: &R,
     alloc: Global,
+    words: &[&str],
     script: &[u8],
     fail_reads: &[u64],
     room: u32,
@@ -65,7 +71,7 @@ fn run_on<R: Threads + Wait + Sync, D: BlockDev + Send + Drop>(
     let fail_reads = NumList::from_slice(alloc, fail_reads)?;
     let mut source = MemSource::new(Bytes::from_slice(alloc, script)?, fail_reads);
     let mut out = MemSink::new(alloc, room, NumList::new(alloc))?;
-    let words = words(alloc)?;
+    let words = strings(alloc, words)?;
     let Ran {
         status,
         dev,
@@ -83,12 +89,13 @@ fn run_on<R: Threads + Wait + Sync, D: BlockDev + Send + Drop>(
 fn run_script<R: Threads + Wait + Sync>(
     rt: &R,
     alloc: Global,
+    words: &[&str],
     script: &[u8],
     sectors: u64,
     fail_writes: &[u64],
 ) -> Result<Seen<MemDisk>, Fail> {
     let dev = disk(alloc, sectors, fail_writes)?;
-    run_on(rt, alloc, script, &[], 65_536, dev)
+    run_on(rt, alloc, words, script, &[], 65_536, dev)
 }
 
 /// Whether this operation wrote bytes that begin so.
@@ -166,7 +173,7 @@ fn has_name(image: &Image, name: u8) -> bool {
 
 #[test]
 fn example(rt: HostRuntime) -> Result<(), Fail> {
-    let seen = run_script(&rt, rt.alloc(), EXAMPLE, SECTORS, &[])?;
+    let seen = run_script(&rt, rt.alloc(), LOG, EXAMPLE, SECTORS, &[])?;
     assert_eq!(rt; seen.status, 0);
     assert_eq!(rt;
         seen.out.as_slice(),
@@ -227,7 +234,7 @@ fn answers(rt: HostRuntime) -> Result<(), Fail> {
         (SPELLED, SPELLED_DONE),
     ];
     for (script, out) in rows {
-        let seen = run_script(&rt, rt.alloc(), script, SECTORS, &[])?;
+        let seen = run_script(&rt, rt.alloc(), LOG, script, SECTORS, &[])?;
         assert_eq!(rt; seen.status, 0);
         assert_eq!(rt; seen.out.as_slice(), out);
     }
@@ -302,7 +309,7 @@ fn long_scripts(alloc: Global) -> Result<[(Vec<u8>, &'static [u8], bool); 4], Al
         (
             log,
             b"0 599 ok 3\n0 600 ok\ndone calls=600 moves=0 from=0 to=0\n".as_slice(),
-            true,
+            false,
         ),
         (
             blocks,
@@ -315,12 +322,57 @@ fn long_scripts(alloc: Global) -> Result<[(Vec<u8>, &'static [u8], bool); 4], Al
 #[test]
 fn long_scripts_end_so(rt: HostRuntime) -> Result<(), Fail> {
     for (lines, out, released) in long_scripts(rt.alloc())? {
-        let seen = run_script(&rt, rt.alloc(), &lines, SECTORS, &[])?;
+        let seen = run_script(&rt, rt.alloc(), LOG, &lines, SECTORS, &[])?;
         assert_eq!(rt; seen.status, 0);
         assert!(rt; seen.out.as_slice().ends_with(out));
         assert_eq!(rt; releases(&seen.history), released);
         let head = sector(seen.dev.image(), 2);
         assert_eq!(rt; number(&head, 16, 8), number(&head, 24, 8));
+    }
+    Ok(())
+}
+
+// ---- sessions
+
+/// A schedule lets the second session begin, which then waits for the first.
+const SCHEDULED: &[u8] =
+    b"sessions 2\nschedule 1 0 1\n0 create /a 644\n1 create /b 644\n1 after 0 2\n1 list /\n0 rename /a /c\n0 tick\n";
+
+const SCHEDULED_DONE: &[u8] =
+    b"0 1 ok 4\n0 2 ok\n0 3 ok\n1 1 ok 3\n1 2 ok\n1 3 ok 2 b c\ndone calls=6 moves=0 from=0 to=0\n";
+
+/// What a stop ends was not committed.
+const STOPPED: &[u8] = b"sessions 1\n0 create /a 644\n0 stop\n0 create /b 644\n";
+
+/// A tick, or a rename, has committed it.
+const TICKED: &[u8] = b"sessions 2\n0 create /a 644\n0 tick\n0 stop\n1 after 0 3\n";
+
+const RENAMED: &[u8] = b"sessions 1\n0 create /b 644\n0 rename /b /a\n0 stop\n";
+
+const STOPPED_DONE: &[u8] = b"0 1 ok 3\n0 2 ok\nstopped calls=2 moves=0 from=0 to=0\n";
+
+const TICKED_DONE: &[u8] = b"0 1 ok 3\n0 2 ok\n0 3 ok\nstopped calls=3 moves=0 from=0 to=0\n";
+
+#[test]
+fn sessions_take_turns(rt: HostRuntime) -> Result<(), Fail> {
+    let alloc = rt.alloc();
+    for words in [LOG, DELAYED] {
+        let seen = run_script(&rt, alloc, words, SCHEDULED, SECTORS, &[])?;
+        assert_eq!(rt; seen.status, 0);
+        assert_eq!(rt; seen.out.as_slice(), SCHEDULED_DONE);
+    }
+    // so many operations, and whether each image, and none, has the name
+    let rows = [
+        (DELAYED, STOPPED, STOPPED_DONE, 70, (false, true)),
+        (LOG, STOPPED, STOPPED_DONE, 78, (true, false)),
+        (DELAYED, TICKED, TICKED_DONE, 78, (true, false)),
+        (DELAYED, RENAMED, TICKED_DONE, 78, (true, false)),
+    ];
+    for (words, script, out, ops, found) in rows {
+        let seen = run_script(&rt, alloc, words, script, SECTORS, &[])?;
+        assert_eq!(rt; (seen.status, seen.dev.ops()), (0, ops));
+        assert_eq!(rt; seen.out.as_slice(), out);
+        assert_eq!(rt; with_name(alloc, &seen.dev, ops)?, found);
     }
     Ok(())
 }
@@ -332,7 +384,7 @@ const NO_LINES: &[u8] = b"sessions 1\n";
 const NOTHING_DONE: &[u8] = b"done calls=0 moves=0 from=0 to=0\n";
 
 /// A command that is not built yet.
-const A_SYNC: &[u8] = b"sessions 1\n0 create /a 644\n0 sync\n";
+const A_FSYNC: &[u8] = b"sessions 1\n0 create /a 644\n0 fsync 1\n";
 
 const BAD_LINE: &[u8] = b"refused 3 BadLine 3\n";
 
@@ -353,7 +405,7 @@ fn ends(rt: HostRuntime) -> Result<(), Fail> {
     let alloc = rt.alloc();
     let rows = [
         (NO_LINES, SECTORS, NEVER, NEVER, 4096, 0, 72, NOTHING_DONE),
-        (A_SYNC, SECTORS - 1, NEVER, NEVER, 4096, 3, 0, BAD_LINE),
+        (A_FSYNC, SECTORS - 1, NEVER, NEVER, 4096, 3, 0, BAD_LINE),
         (ONE_CREATE, SECTORS - 1, NEVER, NEVER, 4096, 2, 0, TOO_SMALL),
         (ONE_CREATE, SECTORS, NEVER, 2, 4096, 7, 0, UNREAD),
         (ONE_CREATE, SECTORS, 77, NEVER, 4096, 4, 77, DISABLED),
@@ -361,12 +413,12 @@ fn ends(rt: HostRuntime) -> Result<(), Fail> {
     ];
     for (script, sectors, failing_write, failing_read, room, status, ops, out) in rows {
         let dev = disk(alloc, sectors, &[failing_write])?;
-        let seen = run_on(&rt, alloc, script, &[failing_read], room, dev)?;
+        let seen = run_on(&rt, alloc, LOG, script, &[failing_read], room, dev)?;
         assert_eq!(rt; (seen.status, seen.dev.ops()), (status, ops));
         assert_eq!(rt; seen.out.as_slice(), out);
     }
     let dev = FuseDev::new(disk(alloc, SECTORS, &[])?, 77);
-    let seen = run_on(&rt, alloc, ONE_CREATE, &[], 4096, dev)?;
+    let seen = run_on(&rt, alloc, LOG, ONE_CREATE, &[], 4096, dev)?;
     assert_eq!(rt; (seen.status, seen.dev.ops()), (4, 77));
     assert_eq!(rt; seen.out.as_slice(), DISABLED);
     Ok(())
@@ -393,7 +445,7 @@ fn with_name(alloc: Global, dev: &MemDisk, moment: u64) -> Result<(bool, bool), 
 #[test]
 fn a_create_is_there_from_its_return_on(rt: HostRuntime) -> Result<(), Fail> {
     let alloc = rt.alloc();
-    let seen = run_script(&rt, alloc, ONE_CREATE, SECTORS, &[])?;
+    let seen = run_script(&rt, alloc, LOG, ONE_CREATE, SECTORS, &[])?;
     for moment in FORMAT..77 {
         assert_eq!(rt; with_name(alloc, &seen.dev, moment)?, (false, true));
     }
@@ -404,16 +456,67 @@ fn a_create_is_there_from_its_return_on(rt: HostRuntime) -> Result<(), Fail> {
     Ok(())
 }
 
-/// How many of the ten names are there, where they are the first of them; else 11.
-fn names_there(image: &Image) -> u64 {
+/// What a crash may leave of a history of creates, after so many operations.
+#[derive(Drop)]
+struct Front {
+    /// The names, in the order of their calls.
+    names: Vec<u8>,
+    /// So many of the calls had begun.
+    begun: usize,
+    /// So many at least are there: a call that had returned, and what came before it.
+    returned: usize,
+}
+
+/// The front at this moment.
+fn front_at(alloc: Global, history: &History, moment: u64) -> Result<Front, AllocError> {
+    let mut names = Vec::new(alloc);
+    let mut places = Vec::new(alloc);
+    let mut begun = 0;
+    let mut returned = 0;
+    for (place, event) in history.as_slice().iter().enumerate() {
+        match event {
+            Event::Do {
+                at,
+                call: Call::Create { path, .. },
+                ..
+            } => {
+                names.push(path.as_slice().get(1).copied().unwrap_or(0))?;
+                places.push(place as u64)?;
+                if *at <= moment {
+                    begun = names.len();
+                }
+            }
+            Event::Ret {
+                at,
+                place,
+                answer: Reply::Made { .. },
+            } if *at < moment => {
+                for (index, begins) in places.iter().enumerate() {
+                    if *begins == *place && returned < index + 1 {
+                        returned = index + 1;
+                    }
+                }
+            }
+            _ => {}
+        }
+    }
+    Ok(Front {
+        names,
+        begun,
+        returned,
+    })
+}
+
+/// How many of the names are there, where they are the first of them; else one more than there are.
+fn names_there(image: &Image, names: &[u8]) -> usize {
     let mut count = 0;
     let mut gap = false;
-    for (place, name) in TEN_NAMES.iter().enumerate() {
+    for (place, name) in names.iter().enumerate() {
         if has_name(image, *name) {
             if gap {
-                return 11;
+                return names.len() + 1;
             }
-            count = place as u64 + 1;
+            count = place + 1;
         } else {
             gap = true;
         }
@@ -421,23 +524,14 @@ fn names_there(image: &Image) -> u64 {
     count
 }
 
-/// How many creates of the ten had begun after so many operations, and how many had returned.
-fn begun_and_returned(moment: u64) -> (u64, u64) {
-    let begun = if moment < 78 {
-        1
-    } else {
-        2 + (moment - 78) / 7
-    };
-    (begun.min(10), (begun - 1).min(10))
-}
-
 /// Whether the images of the seeds 0 and 1 at this moment have as many names as they may.
-fn is_allowed(alloc: Global, dev: &MemDisk, moment: u64) -> Result<bool, Fail> {
-    let (begun, returned) = begun_and_returned(moment);
+fn is_allowed(alloc: Global, seen: &Seen<MemDisk>, moment: u64) -> Result<bool, Fail> {
+    let front = front_at(alloc, &seen.history, moment)?;
     for seed in 0..2 {
-        if moment <= dev.ops() {
-            let there = names_there(&pick_image(alloc, dev, moment, seed)?);
-            if there < returned || there > begun {
+        if moment <= seen.dev.ops() {
+            let image = pick_image(alloc, &seen.dev, moment, seed)?;
+            let there = names_there(&image, front.names.as_slice());
+            if there < front.returned || there > front.begun {
                 return Ok(false);
             }
         }
@@ -448,15 +542,16 @@ fn is_allowed(alloc: Global, dev: &MemDisk, moment: u64) -> Result<bool, Fail> {
 #[test]
 fn each_operation_may_fail(rt: HostRuntime) -> Result<(), Fail> {
     let alloc = rt.alloc();
-    let whole = run_script(&rt, alloc, TEN_CREATES, SECTORS, &[])?;
+    let whole = run_script(&rt, alloc, LOG, TWO_SESSIONS, SECTORS, &[])?;
+    assert_eq!(rt; whole.status, 0);
     for moment in FORMAT..=whole.dev.ops() {
-        assert!(rt; is_allowed(alloc, &whole.dev, moment)?);
+        assert!(rt; is_allowed(alloc, &whole, moment)?);
     }
-    for failing in 71..156u64 {
-        let seen = run_script(&rt, alloc, TEN_CREATES, SECTORS, &[failing])?;
+    for failing in FORMAT + 1..=whole.dev.ops() {
+        let seen = run_script(&rt, alloc, LOG, TWO_SESSIONS, SECTORS, &[failing])?;
         assert_eq!(rt; seen.status, 4);
         for moment in failing.saturating_sub(4).max(FORMAT)..=seen.dev.ops() {
-            assert!(rt; is_allowed(alloc, &seen.dev, moment)?);
+            assert!(rt; is_allowed(alloc, &seen, moment)?);
         }
     }
     Ok(())

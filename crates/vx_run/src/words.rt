@@ -1,18 +1,27 @@
 //! The words of the command line.
 ghost use Rattle.std.specs.Prelude.{◌≡◌, map};
 ghost use Rattle.std.specs.String.{string_bytes};
-ghost use Rattle.vx_run.specs.Words.{are_words};
+ghost use Rattle.vx_run.specs.Words.{logging_asked};
 
-/// Whether the words are `fresh IMAGE -o log`, for any image.
-pub fn are_words(words: &[String]) -> bool
-    ensures { result ≡ are_words (map string_bytes words.now) }
+use vx_base::Logging;
+use vx_modes::Options;
+use vx_script::StartRefusal;
+
+/// The logging mode that the words ask for, which are `fresh IMAGE` or `fresh IMAGE -o LIST`. Without a list it is `delaylog`
+/// (docs/MODES.md).
+#[tactic(auto, unfolding(crate::specs::Words::logging_asked))]
+pub fn logging_asked(words: &[String]) -> Result<Logging, StartRefusal>
+    ensures { result ≡ logging_asked (map string_bytes words.now) }
 {
     match words {
-        [verb, _, option, list] => {
-            verb.as_bytes() == b"fresh".as_slice()
-                && option.as_bytes() == b"-o".as_slice()
-                && list.as_bytes() == b"log".as_slice()
+        [verb, _] if verb.as_bytes() == b"fresh".as_slice() => Ok(Logging::DelayLog),
+        [verb, _, option, list]
+            if verb.as_bytes() == b"fresh".as_slice() && option.as_bytes() == b"-o".as_slice() => {
+            match Options::parse(list.as_bytes()) {
+                Ok(options) => Ok(options.logging),
+                Err(why) => Err(StartRefusal::from(why)),
+            }
         }
-        _ => false,
+        _ => Err(StartRefusal::BadWords),
     }
 }

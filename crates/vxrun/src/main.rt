@@ -1,4 +1,4 @@
-//! `vxrun`: makes a new file system on an image file, runs a script on it, and prints the answers.
+//! `vxrun`: makes a new file system on an image file, runs a script of one or more sessions on it, and prints the answers.
 #![tactic(auto)]
 
 use std::fs::File;
@@ -21,8 +21,8 @@ const NO_MEMORY: u8 = 6;
 
 const CANNOT_OPEN: u8 = 9;
 
-const USAGE: &str = "usage: vxrun fresh IMAGE -o log < SCRIPT
-Makes a file system in the file IMAGE, answers the lines of SCRIPT, and unmounts it. vxrun(1) has more.
+const USAGE: &str = "usage: vxrun fresh IMAGE [-o log|delaylog] < SCRIPT
+Makes a file system in the file IMAGE, answers the lines of SCRIPT, whose sessions take turns, and unmounts it. vxrun(1) has more.
 vxrun 0.1 of Vudkesh";
 
 fn main(rt: HostRuntime) -> ExitCode {
@@ -75,7 +75,7 @@ fn point_at_bad_line(rt: &HostRuntime, script: &[u8]) {
 fn reason(why: Why) -> &'static str {
     match why {
         Why::Sessions => {
-            "the script does not begin with `sessions 1`, or there is no such session yet"
+            "the script does not begin with `sessions N`, N from 1 to 16, or the line names no session of it"
         }
         Why::Unknown => "there is no such command yet",
         Why::Words => "the command has other words",

@@ -1,4 +1,0 @@
-pub mod Sizes
-pub mod Devices
-pub mod Journals
-pub mod JournalLaws

@@ -1,0 +1,144 @@
+-- A run that has ended.
+use Rattle.std.proofs.Common.{◌≡◌, ◌⊎◌, ℕ, ◌≤◌, Bool, true, false, not, ◌&&◌, ◌||◌, List, [], ◌∷◌, length, take, Option, Some, None, Result, Ok, Err, refl, sym, ◌∙◌, ap, subst, inl, inr, arith}
+use Rattle.std.specs.Prelude.{All, IfSome, OnOk, OnErr, is_ok, is_some}
+use Rattle.std.specs.Io.KnownBytes.{Appends}
+use Rattle.std.proofs.lemmas.List.{take_all}
+use Rattle.std.proofs.lemmas.List.Elements.{All-nil, All-cons, All-weaker}
+use Rattle.vx_base.specs.declared.call.Call.{Call}
+use Rattle.vx_base.specs.declared.event.Event.{Event}
+use Rattle.vx_base.specs.declared.event.Event.TheVariants as event
+use Rattle.vx_base.specs.Faults.{Rose, HasCause}
+use Rattle.vx_dev.specs.Tape as dev
+use Rattle.vx_dev.specs.Moments.{Told}
+use Rattle.vx_model.specs.AllowedLaws.{AllowedLaws}
+use Rattle.vx_model.specs.Legal.{World, Phase, in_use, stopping, stopped, unmounted, Legal, at_of, after, after_all}
+use Rattle.vx_model.specs.Replays.{IsLeft}
+use Rattle.vx_mount.specs.Cores.{CoreView, has_ended, is_end}
+use Rattle.vx_mount.specs.Sessions.{is_stopped}
+use Rattle.vx_core.specs.Facts as core
+use Rattle.vx_core.specs.Faults as told
+use Rattle.vx_core.specs.Mounts.{MountView}
+use Rattle.vx_core.specs.Tracks.{IsOnCourse, last_event}
+use Rattle.vx_script.specs.Puts.{AppendsPrefix}
+use Rattle.vx_stage.specs.Kernels.{IsLive, Now}
+use Rattle.vx_stage.specs.Leads.{state_at}
+use Rattle.vx_stage.specs.declared.kernel.Job.{Job}
+use Rattle.vx_stage.specs.declared.kernel.Job.TheVariants.{Left}
+use Rattle.vx_stage.specs.declared.kernel.Kernel.{Kernel}
+use Rattle.vx_run.specs.Ends.{Taking, Takes, Setting, first_of, beginning, begun_view, AreInOrder, CameBetween, is_unmounted_phase, is_unmounted}
+
+pub takes_of : {E : Type 0} (t : Taking) (text : List ℕ) (r : Result (Unit {0}) E) → OnOk r (Appends t.before t.now text) → OnErr r (AppendsPrefix t.before t.now text) → HasCause t.faults_before t.faults r → Takes t text (is_ok r)
+takes_of t text (Ok x) ok err cause = (ok, cause.fine)
+takes_of t text (Err e) ok err cause = (err, cause.failed)
+
+-- where the turns begin
+pub begun_is : (s : Setting) (lines : List (List Call)) (v : CoreView) → v.lines ≡ lines → v.history ≡ [] → v.count ≡ first_of s → v.locks ≡ [] → v.disabled ≡ false → v ≡ begun_view s lines
+begun_is s lines v same empty count locks off = λ i. record { lines = same i; history = empty i; count = count i; locks = locks i; disabled = off i }
+
+-- ---- the moments of a legal history
+
+after_at : (w : World) (e : Event) → (after w e).at ≡ at_of e
+after_at w (event.Do at session line c reply) = refl
+after_at w (event.Ret at place answer) = refl
+after_at w (event.Settle at ino size) = refl
+after_at w (event.Release at upto) = refl
+after_at w (event.MoveTake at place ino) = refl
+after_at w (event.MoveSwitch at place ino from to) = refl
+after_at w (event.MoveGive at place ino cause) = refl
+after_at w (event.Bar at place units) = refl
+after_at w (event.Resized at place units) = refl
+after_at w (event.Unbar at place cause) = refl
+after_at w (event.Stopped at) = refl
+after_at w (event.Unmounted at) = refl
+
+came_from : (w : World) (h : List Event) → Legal w h → All (λ e. w.at ≤ at_of e) h
+came_from w [] legal = All-nil (λ e. w.at ≤ at_of e)
+came_from w (e ∷ es) legal =
+    let rest : All (λ x. (after w e).at ≤ at_of x) es = came_from (after w e) es legal.1 in
+    let here : w.at ≤ at_of e = legal.0.later in
+    let same : (after w e).at ≡ at_of e = after_at w e in
+    All-cons (λ x. w.at ≤ at_of x) e es here (All-weaker (λ x. (after w e).at ≤ at_of x) (λ x. w.at ≤ at_of x) (λ x le. omega (arith, here, same, le)) es rest)
+
+pub later_than : (w : World) (h : List Event) → Legal w h → w.at ≤ (after_all w h).at
+later_than w [] legal = omega arith
+later_than w (e ∷ es) legal =
+    let rest : (after w e).at ≤ (after_all (after w e) es).at = later_than (after w e) es legal.1 in
+    let here : w.at ≤ at_of e = legal.0.later in
+    let same : (after w e).at ≡ at_of e = after_at w e in
+    omega (arith, rest, here, same)
+
+pub came_between : (s : Setting) (h : List Event) (count : ℕ) → Legal (beginning s) h → All (λ e. at_of e ≤ count) h → All (CameBetween (first_of s) count) h
+came_between s h count legal upper = λ i e lt. (came_from (beginning s) h legal i e lt, upper i e lt)
+
+-- ---- how it ended
+
+or_false : (b c : Bool) → b ≡ false → (b || c) ≡ true → c ≡ true
+or_false true c open_end ended = absurd (cc)
+or_false false c open_end ended = ended
+
+and_false : (b : Bool) → false ≡ (b && false)
+and_false true = refl
+and_false false = refl
+
+pub disabled_by : (v : MountView) (lists : List (List Call)) → is_end (last_event v.history) ≡ false → has_ended (core.view_of v lists) ≡ true → is_some v.disabled ≡ true
+unfolding has_ended
+disabled_by v lists open_end ended = or_false (is_end (last_event v.history)) (is_some v.disabled) open_end ended
+
+pub ended_by : (o : World) (v : MountView) (lists lines : List (List Call)) (run_stopped : Bool) → IsOnCourse run_stopped lines (after_all o v.history) v.history → (is_end (last_event v.history) ≡ true → v.disabled ≡ None)
+    → has_ended (core.view_of v lists) ≡ true → is_unmounted o v.history ≡ (not (is_some v.disabled) && not (is_stopped v.history))
+ended_by o v lists lines true course end ended =
+    ap is_unmounted_phase course.phase ∙ and_false (not (is_some v.disabled)) ∙ ap (λ b. not (is_some v.disabled) && not b) (sym course.stops)
+ended_by o v lists lines false (inl runs) end ended =
+    ap is_unmounted_phase runs.phase ∙ ap (λ b. not b && not (is_stopped v.history)) (sym (disabled_by v lists runs.open_end ended))
+ended_by o v lists lines false (inr over) end ended =
+    let enabled : v.disabled ≡ None = end over.end in
+    ap is_unmounted_phase over.phase ∙ ap (λ b. true && not b) (sym over.runs) ∙ ap (λ (x : Option ℕ). not (is_some x) && not (is_stopped v.history)) (sym enabled)
+
+-- a run that was stopped was not disabled
+pub never_both : (o : World) (v : MountView) (lines : List (List Call)) (run_stopped : Bool) → IsOnCourse run_stopped lines (after_all o v.history) v.history → (is_end (last_event v.history) ≡ true → v.disabled ≡ None) → is_some v.disabled ≡ true → is_stopped v.history ≡ false
+never_both o v lines true course end on = absurd (let enabled : v.disabled ≡ None = end course.end in let no_way : false ≡ true = sym (ap (λ (x : Option ℕ). is_some x) enabled) ∙ on in cc)
+never_both o v lines false (inl runs) end on = runs.runs
+never_both o v lines false (inr over) end on = over.runs
+
+pub in_order : (count : Option ℕ) (v : MountView) (d : dev.State) (lines : List (List Call)) → v.write_faults ≡ d.write_faults → v.count ≡ d.count → told.AreInOrder count v lines → AreInOrder count d v.history
+in_order None v d lines faults counts order = order
+in_order (Some n) v d lines faults counts order = (
+  order.0 ∙ faults,
+  elim order.1 [
+    | inl stops ↦ inl (subst (λ k. told.StopsAt n k v.history) counts stops)
+    | inr over ↦ inr over.1
+  ],
+)
+
+pub fine_if : (before now : ℕ) (o : Option ℕ) → told.TellsFaults before now o → is_some o ≡ false → now ≡ before
+fine_if before now None tells off = tells
+fine_if before now (Some n) tells off = absurd (cc)
+
+pub rose_if : (before now : ℕ) (o : Option ℕ) → told.TellsFaults before now o → is_some o ≡ true → Rose before now
+rose_if before now None tells on = absurd (cc)
+rose_if before now (Some n) tells on = tells
+
+-- ---- what it leaves
+
+pub phase_unmounted : (p : Phase) → is_unmounted_phase p ≡ true → p ≡ unmounted
+phase_unmounted in_use is = absurd (cc)
+phase_unmounted stopping is = absurd (cc)
+phase_unmounted stopped is = absurd (cc)
+phase_unmounted unmounted is = refl
+
+left_now : (laws : AllowedLaws) (o : World) (k : Kernel) (t : dev.Tape) → k.job ≡ Left → k.committed ≡ length k.history.items → IsLive o k t
+    → IsLeft o.state.layout.device_sectors (after_all o k.history.items).state.tree t
+left_now laws o k t job committed live =
+    let now : Now k Left o live.reading t = subst (λ j. Now k j o live.reading t) job live.now in
+    let all : state_at o k.history.items k.committed ≡ (after_all o k.history.items).state =
+    ap (state_at o k.history.items) committed ∙ ap (λ (h : List Event). (after_all o h).state) (take_all (length k.history.items) k.history.items (omega arith)) in
+    let left : IsLeft (after_all o k.history.items).state.layout.device_sectors (after_all o k.history.items).state.tree t = subst (λ x. IsLeft x.layout.device_sectors x.tree t) all now.1 in
+    subst (λ n. IsLeft n (after_all o k.history.items).state.tree t) (laws.device o k.history.items) left
+
+pub told_left : (laws : AllowedLaws) (o : World) (k : Kernel) (d : dev.State) → k.job ≡ Left → k.committed ≡ length k.history.items → Told d (IsLive o k)
+    → Told d (IsLeft o.state.layout.device_sectors (after_all o k.history.items).state.tree)
+told_left laws o k d job committed live = for d.told live
+  where
+    for : (t : Option dev.Tape) → IfSome t (IsLive o k) → IfSome t (IsLeft o.state.layout.device_sectors (after_all o k.history.items).state.tree)
+    for None is = tt
+    for (Some t) is = left_now laws o k t job committed is
