@@ -11,7 +11,6 @@ mod HomeWrites
 mod Overlays
 mod Notes
 mod StageRuns
-mod CommitRuns
+mod StageClaims
 mod RecordForms
 mod ReadSectors
-mod Elsewhere

@@ -3,7 +3,6 @@ pub mod Writes
 pub mod Logs
 pub mod Crashes
 pub mod Stages
-pub mod Readings
 pub mod Ends
 pub mod NoteLaws
 pub mod OrderLaws

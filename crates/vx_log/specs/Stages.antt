@@ -1,8 +1,7 @@
 -- What is known of the device while a batch is written and while sectors are written home.
-use Rattle.std.specs.Prelude.{◌≡◌, ◌⊎◌, ◌<◌, ◌≤◌, ◌+◌, ℕ, IsTrue, List, length, get_or, Some}
+use Rattle.std.specs.Prelude.{◌≡◌, ◌⊎◌, ◌<◌, ◌≤◌, ◌+◌, ℕ, IsTrue, List, length, get_or}
 use Rattle.vx_dev.specs.Tape.{Tape}
 use Rattle.vx_layout.specs.LogForms.{AfterImage, LogState, log_length, body_of, overlay_all}
-use Rattle.vx_log.specs.Logs.{LogView}
 use Rattle.vx_log.specs.Crashes.{Stands, IsDecided, IsPut, IsPutHome}
 
 -- the first k log sectors of the batch are written behind the head
@@ -14,13 +13,6 @@ pub record IsBodyPut (n : ℕ) (r : LogState) (batch : List AfterImage) (k : ℕ
 pub record IsFitting (n : ℕ) (r : LogState) (batch : List AfterImage) : Type 0 where
   pub some : 0 < n
   pub room : r.head + log_length (length batch) ≤ r.tail + n
-
--- the log is about to write the batch
-pub record IsToPut (log : LogView) (n : ℕ) (r : LogState) (batch : List AfterImage) : Type 0 where
-  pub fits : IsFitting n r batch
-  pub sectors : log.sectors ≡ n
-  pub head : r.head ≡ log.head
-  pub closing : log.closing ≡ Some (record { batch = batch; written = 0 })
 
 -- each of these writes puts into a metadata sector what it is to hold, and a record names it
 pub record AreHomes (r : LogState) (writes : List (ℕ × List ℕ)) : Type 0 where

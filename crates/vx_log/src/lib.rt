@@ -4,7 +4,6 @@
 
 mod batch;
 mod body;
-mod commit;
 mod descriptor;
 mod head;
 mod laws;

@@ -1,5 +1,5 @@
 use Rattle.vx_log.proofs.Commits.{body_free, put_more, certain_body}
-use Rattle.vx_log.proofs.CommitRuns.{stage_put, stage_passed, broken_passed}
+use Rattle.vx_log.proofs.StageClaims.{stage_put, stage_passed, broken_passed}
 use Rattle.vx_log.proofs.laws.body_laws.Goals as goal
 
 pub returns-clause-free : goal.returns-clause-free

@@ -1,6 +1,6 @@
 use Rattle.std.proofs.Common.{[], refl, sym, ⊎_elim, inl, inr}
 use Rattle.vx_log.proofs.HomeWrites.{home_free, home_put, home_stable, all_home}
-use Rattle.vx_log.proofs.CommitRuns.{homes_written, homes_passed, homes_broken}
+use Rattle.vx_log.proofs.StageClaims.{homes_written, homes_passed, homes_broken}
 use Rattle.vx_log.proofs.laws.home_laws.Goals as goal
 
 pub returns-clause-free : goal.returns-clause-free
