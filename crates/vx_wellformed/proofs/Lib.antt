@@ -1,0 +1,12 @@
+pub mod Chains
+pub mod EntryNames
+pub mod Edits
+pub mod Naming
+pub mod Reaching
+pub mod Legality
+pub mod Calls
+pub mod Histories
+pub mod Forms
+pub mod Saying
+pub mod Sounding
+pub mod Alike

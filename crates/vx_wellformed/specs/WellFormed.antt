@@ -1,0 +1,52 @@
+-- States whose images pass the image check.
+use Rattle.std.specs.Prelude.{◌≡◌, ℕ, ◌≤◌, List, [], Some}
+use Rattle.std.specs.List.{AllByRecursion}
+use Rattle.vx_base.specs.declared.call.Call.{Call}
+use Rattle.vx_base.specs.declared.call.Call.TheVariants as call
+use Rattle.vx_base.specs.declared.event.Event.{Event}
+use Rattle.vx_base.specs.declared.event.Event.TheVariants as event
+use Rattle.vx_layout.specs.Places.{sectors_of}
+use Rattle.vx_layout.specs.Supers.{IsSuper, volume_of}
+use Rattle.vx_layout.specs.declared.superblock.Super.{Super}
+use Rattle.vx_sound.specs.Facts.{AreNamesRight}
+use Rattle.vx_model.specs.State.{State, Done, fresh_of}
+use Rattle.vx_model.specs.Step.{step}
+use Rattle.vx_model.specs.Layout.{Layout, blocks_at}
+use Rattle.vx_model.specs.LaidOut.{IsLaidOut, entries_of}
+use Rattle.vx_model.specs.Legal.{World, with_released, after, after_all}
+use Rattle.vx_model.specs.NameLaws.{HasLinks, HasNoLoops}
+
+-- each name in a directory's blocks is one that a path may have, and stands there once
+abbrev pub HasNames : Layout → Type 0
+HasNames l = (n : ℕ) → AreNamesRight [] (entries_of (blocks_at l n))
+
+-- The state can be laid out on a device, its names fit its inodes, and no inode is below itself.
+pub record IsWellFormed (s : State) : Type 0 where
+  pub laid_out : IsLaidOut s
+  pub names : HasNames s.layout
+  pub links : HasLinks s
+  pub no_loops : HasNoLoops s.tree.nodes
+
+-- ---- calls
+
+-- a mode that an inode can have
+abbrev pub HasMode : Call → Type 0
+HasMode (call.Create path mode) = mode ≤ 4095
+HasMode (call.Mkdir path mode) = mode ≤ 4095
+HasMode (call.Chmod path mode) = mode ≤ 4095
+HasMode _ = Unit {0}
+
+abbrev pub HasModes : Event → Type 0
+HasModes (event.Do at session line c reply) = HasMode c
+HasModes _ = Unit {0}
+
+pub record WellFormedLaws : Type 0 where
+  -- a new file system is well-formed
+  pub fresh : (v : Super) (limit device_sectors : ℕ) → IsSuper v → limit ≤ 1 → sectors_of (volume_of v) ≤ device_sectors → IsWellFormed (fresh_of v limit device_sectors)
+  -- each call keeps it so, whatever it answers
+  pub step : (s : State) (place session : ℕ) (c : Call) (done : Done) → IsWellFormed s → HasMode c → step s place session c ≡ Some done → IsWellFormed done.state
+  pub released : (s : State) (upto : ℕ) → IsWellFormed s → IsWellFormed (with_released s upto)
+  -- and so does a history
+  pub history : (w : World) (events : List Event) → IsWellFormed w.state → AllByRecursion HasModes events → IsWellFormed (after_all w events).state
+  -- and an event that leaves a state known to be laid out, whatever mode it sets
+  pub event : (w : World) (e : Event) → IsWellFormed w.state → IsLaidOut (after w e).state → IsWellFormed (after w e).state
