@@ -1,5 +1,5 @@
 -- What a device would hold after a barrier, as it is formatted.
-use Rattle.std.proofs.Common.{◌≡◌, ◌≢◌, ◌⊎◌, ℕ, ◌+◌, ◌<◌, List, Option, Some, None, sym, subst, arith, inl, inr, true, ◌≤◌, lit<, lit≤}
+use Rattle.std.proofs.Common.{◌≡◌, ◌≢◌, ◌⊎◌, ℕ, ◌+◌, ◌<◌, List, Option, Some, None, sym, subst, arith, inl, inr, true, false, ◌≤◌, lit<, lit≤}
 use Rattle.std.specs.Prelude.{IfSome, option_map, Result, Ok, Err, OnOk}
 use Rattle.std.proofs.lemmas.Bool.{cases_eq}
 use Rattle.vx_dev.specs.declared.device.Operation.{Operation}
@@ -11,6 +11,7 @@ use Rattle.vx_layout.specs.LogForms.{head_sector}
 use Rattle.vx_layout.specs.Places.{Volume, bitmap_sector, sectors_of}
 use Rattle.vx_layout.specs.Supers.{IsSuper, super_bytes, volume_of}
 use Rattle.vx_dev.specs.Moments.{Told}
+use Rattle.vx_sound.specs.Sound.{IsSound}
 use Rattle.vx_model.specs.Contents.{unit_sectors, unit_bytes, IsFormatted}
 use Rattle.vx_model.specs.Reads.{ImageReadsAs}
 use Rattle.vx_model.specs.Replays.{IsLeft}
@@ -129,6 +130,7 @@ module _ (laws : TapeLaws) (s : Super) where
 
 -- a new image whose superblock is marked clean was left clean
 module _ (s : Super) (is : IsSuper s) (device_sectors : ℕ) (room : sectors_of (volume_of s) ≤ device_sectors) (clean : s.clean ≡ true)
+    (sound : (image : ℕ → List ℕ) → IsFormatted (volume_of s) image → IsSound false (volume_of s) image)
     (reads : (image : ℕ → List ℕ) → IsFormatted (volume_of s) image → ImageReadsAs (volume_of s) image empty_root) where
   left_by : (t : Tape) → IsNewImage s t → IsLeft device_sectors empty_root t
   left_by t new = record {
@@ -144,6 +146,7 @@ module _ (s : Super) (is : IsSuper s) (device_sectors : ℕ) (room : sectors_of 
       serial_limit = lit< tt;
       limit = lit≤ tt;
       head_is = new.head;
+      sound = sound (now t) new.units;
       reads = reads (now t) new.units;
     };
   }

@@ -16,6 +16,8 @@ use vx_dev::{BlockDev, DevFault, pass, put, tape_laws};
 use vx_layout::{Super, super_places};
 use vx_log::head_sector;
 use vx_model::states::fresh_reads;
+use vx_sound::sound_laws;
+use vx_wellformed::laws::history_sound;
 
 /// The sectors of a block of 1,024 bytes.
 const SECTORS_PER_BLOCK: u64 = 2;
@@ -138,6 +140,8 @@ pub fn make<D: BlockDev>(dev: &mut D, superblock: &Super) -> Result<(), DevFault
     // The proof rests on these laws; nothing runs here.
     tape_laws();
     fresh_reads();
+    sound_laws();
+    history_sound();
     put_units(dev, superblock)?;
     put(dev, HEAD_SECTOR, &head_sector(FIRST_SERIAL, 0, 0))?;
     pass(dev)?;

@@ -65,5 +65,6 @@ clean_replays device_sectors image t c = record {
     fits = omega arith;
     whole = λ i lt. absurd (omega arith);
   };
+  sound = c.sound;
   reads = c.reads;
 }

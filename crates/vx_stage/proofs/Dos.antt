@@ -22,11 +22,11 @@ use Rattle.vx_model.specs.Images.{IsBatch}
 use Rattle.vx_model.specs.Layout.{Layout, Claim, claim_of, claim_below, claim_among, or_claim, blocks_at, released, kept_pending}
 use Rattle.vx_model.specs.LaidOut.{IsLaidOut}
 use Rattle.vx_model.specs.AllowedLaws.{IsQuiet}
-use Rattle.vx_model.specs.EditLaws.{EditLaws}
 use Rattle.vx_model.specs.Legal.{World, Waiting, DoAllowed, RetAllowed, IfThere, is_any_time, is_fault, is_no_space, after_all, state_after_step}
 use Rattle.vx_model.specs.Step.{step}
 use Rattle.vx_model.specs.State.{State, Done}
 use Rattle.vx_model.specs.Waiting.{Waits, WaitingLaws}
+use Rattle.vx_wellformed.specs.WellFormed.{IsWellFormed, WellFormedLaws}
 use Rattle.vx_stage.specs.Growths.{called_state, IsGrowth, FreesNone, IsInUse, MayDo, MayRefuse, MayAnswer, MayStop}
 use Rattle.vx_stage.specs.KernelLaws.{KernelLaws}
 use Rattle.vx_stage.specs.Kernels.{IsMounted, HasRun, present}
@@ -70,14 +70,14 @@ call_waits laws o d k session line call reply run allowed = subst (λ (place : �
     by_cases false None is there = absurd there
     by_cases false (Some done) is there = laws.step s n session call done is
 
-mounted_on : (v : Super) (s new : State) (place : ℕ) → IsMounted v s → IsLaidOut new → Waits place s new → IsMounted v new
-mounted_on v s new place is laid_out waits = record {
-  laid_out = laid_out;
+mounted_on : (v : Super) (s new : State) (place : ℕ) → IsMounted v s → IsWellFormed new → Waits place s new → IsMounted v new
+mounted_on v s new place is well_formed waits = record {
+  well_formed = well_formed;
   log_blocks = omega (arith, ap (λ (w : Volume). w.first) waits.same_volume, is.log_blocks);
   units = ap (λ (w : Volume). w.units) waits.same_volume ∙ is.units;
 }
 
-module _ (laws : WaitingLaws) (o : World) (d : Device) (k : Kernel) (at session line : ℕ) (call : Call) (reply : Reply) (at_is : at ≡ d.count) (run : HasRun o d k) (may : MayDo o k session line call reply) where
+module _ (laws : WaitingLaws) (well : WellFormedLaws) (o : World) (d : Device) (k : Kernel) (at session line : ℕ) (call : Call) (reply : Reply) (at_is : at ≡ d.count) (run : HasRun o d k) (may : MayDo o k session line call reply) where
   waits : Waits (length k.history.items) (present o k) (called_state o k session call reply)
   waits = call_waits laws o d k session line call reply run may.allowed
 
@@ -87,7 +87,8 @@ module _ (laws : WaitingLaws) (o : World) (d : Device) (k : Kernel) (at session 
     at = at_is;
     placed = tt;
     earned = tt;
-    mounted = mounted_on k.sizes (present o k) (called_state o k session call reply) (length k.history.items) run.mounted_now may.laid_out waits;
+    mounted = mounted_on k.sizes (present o k) (called_state o k session call reply) (length k.history.items) run.mounted_now
+        (well.event (after_all o k.history.items) (event.Do at session line call reply) run.mounted_now.well_formed may.laid_out) waits;
     pending = λ b p is. waits_on (length k.history.items) p _ _ (waits.pending b) is;
     young = λ place b from inside young. young_on (length k.history.items) place b (present o k) (called_state o k session call reply) inside waits young;
   }
@@ -113,7 +114,7 @@ refused_may o d k session line call why run may = record {
     reply_is = there (step (present o k) (after_all o k.history.items).next session call) may.built;
     all_released = λ short b. absurd (not_space why may.any_time short);
   };
-  laid_out = subst IsLaidOut (sym (refused_state o k session call why may.any_time)) run.mounted_now.laid_out;
+  laid_out = subst IsLaidOut (sym (refused_state o k session call why may.any_time)) run.mounted_now.well_formed.laid_out;
 }
   where
     there : (x : Option Done) → IfThere x (λ _. Unit {0}) → IfThere x (λ done. (say.Refused why ≡ done.reply) ⊎ (is_fault (say.Refused why) ≡ true))
@@ -191,13 +192,13 @@ unfolding claim_below
 same_claims l upto b zero = refl
 same_claims l upto b (suc n) = ap (or_claim (claim_among n b (blocks_at l n))) (same_claims l upto b n)
 
-pub release_grows : EditLaws → (o : World) (d : Device) (k : Kernel) (at : ℕ) → at ≡ d.count → HasRun o d k → IsInUse o k → IsGrowth o d k (event.Release at k.committed)
-release_grows edits o d k at at_is run mounted = record {
+pub release_grows : WellFormedLaws → (o : World) (d : Device) (k : Kernel) (at : ℕ) → at ≡ d.count → HasRun o d k → IsInUse o k → IsGrowth o d k (event.Release at k.committed)
+release_grows well o d k at at_is run mounted = record {
   allowed = record { later = omega (arith, run.at, at_is); phase_is = mounted; comes = tt };
   at = at_is;
   placed = tt;
   earned = tt;
-  mounted = record { laid_out = edits.released (present o k) k.committed run.mounted_now.laid_out; log_blocks = run.mounted_now.log_blocks; units = run.mounted_now.units };
+  mounted = record { well_formed = well.released (present o k) k.committed run.mounted_now.well_formed; log_blocks = run.mounted_now.log_blocks; units = run.mounted_now.units };
   pending = λ b p is. inl (kept_some k.committed p ((present o k).layout.pending b) is);
   young = λ place b from inside young. elim young [
     | inl claimed ↦ inl (ap is_some (same_claims (present o k).layout k.committed b (128 * (present o k).layout.units)) ∙ claimed)

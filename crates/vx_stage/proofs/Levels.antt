@@ -18,6 +18,7 @@ use Rattle.vx_model.specs.Legal.{World}
 use Rattle.vx_model.specs.Reads.{ImageReadsAs}
 use Rattle.vx_model.specs.Replays.{IsLeft, ReplaysAs}
 use Rattle.vx_model.specs.State.{State}
+use Rattle.vx_sound.specs.Sound.{IsSound}
 use Rattle.vx_stage.specs.Leads.{state_at}
 use Rattle.vx_stage.specs.Kernels.{mounted_super, clean_super, log_size, IsMounted, IsReadingOf, IsLevel, IsBegun, HasRun}
 use Rattle.vx_stage.specs.KernelLaws.{KernelLaws}
@@ -67,7 +68,11 @@ module _ (laws : KernelLaws) (v : Super) (s : State) (is_super : IsSuper v) (m :
 
   image_reads : (t : Tape) → Level t → (image : ℕ → List ℕ) → IsImage t image → ImageReadsAs vol image s.tree
   image_reads t l image is = subst (λ (w : Volume). ImageReadsAs w image s.tree) (same_volume v s m)
-      (laws.reads s image m.laid_out (subst (λ (w : Volume). images.Stands w (parsed_of s) image) (sym (same_volume v s m)) (image_stands t l image is)))
+      (laws.reads s image m.well_formed.laid_out (subst (λ (w : Volume). images.Stands w (parsed_of s) image) (sym (same_volume v s m)) (image_stands t l image is)))
+
+  image_sound : (t : Tape) → Level t → (image : ℕ → List ℕ) → IsImage t image → IsSound false vol image
+  image_sound t l image is = subst (λ (w : Volume). IsSound false w image) (same_volume v s m)
+      (laws.sound s image m.well_formed (subst (λ (w : Volume). images.Stands w (parsed_of s) image) (sym (same_volume v s m)) (image_stands t l image is)))
 
   abbrev super_with : Bool → Super
   super_with clean = record { log_blocks = v.log_blocks; units = v.units; clean = clean }
@@ -88,6 +93,7 @@ module _ (laws : KernelLaws) (v : Super) (s : State) (is_super : IsSuper v) (m :
     same_log = refl;
     room = has_room v s m;
     log = record { serial = serial; tail = position; head = position; serial_limit = l.serial_limit; limit = l.limit; form = tt; head_is = l.head (image 2) (is 2); ends = omega arith; fits = omega arith; whole = λ i lt. absurd (omega (arith, lt)) };
+    sound = image_sound t l image is;
     reads = image_reads t l image is;
   }
 
@@ -117,6 +123,7 @@ module _ (laws : KernelLaws) (v : Super) (s : State) (is_super : IsSuper v) (m :
           serial_limit = l.serial_limit;
           limit = l.limit;
           head_is = l2.head (image 2) (is 2);
+          sound = image_sound (did Barrier t) l2 image is;
           reads = image_reads (did Barrier t) l2 image is;
         };
       }

@@ -1,5 +1,5 @@
 -- What a crash leaves now is allowed by the history, and what passes stays so.
-use Rattle.std.proofs.Common.{◌≡◌, ℕ, suc, ◌+◌, ◌<◌, ◌≤◌, true, List, [], ◌∷◌, length, take, Option, Some, None, refl, sym, ap, subst, ◌∙◌, arith, inl, inr, length-append}
+use Rattle.std.proofs.Common.{◌≡◌, ℕ, suc, ◌+◌, ◌<◌, ◌≤◌, true, false, List, [], ◌∷◌, length, take, Option, Some, None, refl, sym, ap, subst, ◌∙◌, arith, inl, inr, length-append}
 use Rattle.std.specs.Prelude.{IfSome, option_map, nat_le, All}
 use Rattle.std.specs.List.{AllByRecursion}
 use Rattle.std.proofs.lemmas.Bool.{cases_lt}
@@ -25,6 +25,7 @@ use Rattle.vx_model.specs.Legal.{World, at_of}
 use Rattle.vx_model.specs.Reads.{ImageReadsAs}
 use Rattle.vx_model.specs.Replays.{ReplaysAs}
 use Rattle.vx_model.specs.State.{State}
+use Rattle.vx_sound.specs.Sound.{IsSound}
 use Rattle.vx_model.specs.Allowed.{has_front, HoldsFront, IsAllowed}
 use Rattle.vx_stage.specs.Leads.{state_at}
 use Rattle.vx_stage.specs.Kernels.{mounted_super, log_size, device_size, IsMounted, IsReadingOf, HasRun}
@@ -38,7 +39,7 @@ same_volume v s m = λ i. record { block = 1024; first = 2 + m.log_blocks i; uni
 
 -- the device has room for what the superblock says
 pub has_room : (v : Super) (s : State) → IsMounted v s → device_size v ≤ s.layout.device_sectors
-has_room v s m = subst (λ (w : Volume). sectors_of w ≤ s.layout.device_sectors) (same_volume v s m) m.laid_out.room
+has_room v s m = subst (λ (w : Volume). sectors_of w ≤ s.layout.device_sectors) (same_volume v s m) m.well_formed.laid_out.room
 
 -- on a larger device records may name as many sectors at least
 wider_names : (n few many : ℕ) → few ≤ many → (ss : List ℕ) → AllByRecursion (IsNameable n few) ss → AllByRecursion (IsNameable n many) ss
@@ -68,7 +69,8 @@ module _ (laws : KernelLaws) where
         same_log = refl;
         room = has_room v s m;
         log = record { serial = r.serial; tail = r.tail; head = r.head; serial_limit = k.serial; limit = k.limit; form = wider_forms (log_size v) (device_size v) s.layout.device_sectors (has_room v s m) r.records k.form; head_is = reads.head_is; ends = reads.ends; fits = reads.fits; whole = reads.whole };
-        reads = subst (λ (w : Volume). ImageReadsAs w over s.tree) (same_volume v s m) (laws.reads s over m.laid_out (subst (λ (w : Volume). images.Stands w (parsed_of s) over) (sym (same_volume v s m)) stands));
+        sound = subst (λ (w : Volume). IsSound false w over) (same_volume v s m) (laws.sound s over m.well_formed (subst (λ (w : Volume). images.Stands w (parsed_of s) over) (sym (same_volume v s m)) stands));
+        reads = subst (λ (w : Volume). ImageReadsAs w over s.tree) (same_volume v s m) (laws.reads s over m.well_formed.laid_out (subst (λ (w : Volume). images.Stands w (parsed_of s) over) (sym (same_volume v s m)) stands));
       }
 
 -- ---- and is allowed

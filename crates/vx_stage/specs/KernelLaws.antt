@@ -1,5 +1,5 @@
 -- What the stages rest on: laws of the tape, of the log and of images.
-use Rattle.std.specs.Prelude.{◌≡◌, ◌⊎◌, ◌*◌, ◌<◌, ◌≤◌, ◌+◌, ◌^◌, option_map, ℕ, Bool, IsTrue, List, length, Contains, slice_range}
+use Rattle.std.specs.Prelude.{◌≡◌, ◌⊎◌, ◌*◌, ◌<◌, ◌≤◌, ◌+◌, ◌^◌, option_map, ℕ, Bool, false, IsTrue, List, length, Contains, slice_range}
 use Rattle.std.specs.List.{AllByRecursion}
 use Rattle.std.specs.List.Sorted.{IsStrictlyIncreasing}
 use Rattle.vx_dev.specs.declared.device.Operation.TheVariants.{Put, Barrier}
@@ -27,6 +27,8 @@ use Rattle.vx_model.specs.Legal.{with_released}
 use Rattle.vx_model.specs.Layout.{volume}
 use Rattle.vx_model.specs.Reads.{ImageReadsAs}
 use Rattle.vx_model.specs.State.{State}
+use Rattle.vx_sound.specs.Sound.{IsSound}
+use Rattle.vx_wellformed.specs.WellFormed.{IsWellFormed}
 
 pub record KernelLaws : Type 0 where
   -- ---- images
@@ -36,6 +38,7 @@ pub record KernelLaws : Type 0 where
   pub parts : (v : Super) (p : Parsed) (b i : ℕ) → IsTrue (is_data (volume_of v) b) → i < 2
       → content_at (volume_of v) p (block_sector 2 b + i) ≡ option_map (λ es. sector_part i (dir_bytes 1024 es)) (p.blocks b)
   pub reads : (s : State) (image : ℕ → List ℕ) → IsLaidOut s → images.Stands (volume s.layout) (parsed_of s) image → ImageReadsAs (volume s.layout) image s.tree
+  pub sound : (s : State) (image : ℕ → List ℕ) → IsWellFormed s → images.Stands (volume s.layout) (parsed_of s) image → IsSound false (volume s.layout) image
   pub released : (s : State) (upto : ℕ) → parsed_of (with_released s upto) ≡ parsed_of s
   -- ---- batches
   pub records : (batch : List AfterImage) (s : ℕ) (x : List ℕ) → overlay_all (records_of batch) s x ≡ overlay batch s x

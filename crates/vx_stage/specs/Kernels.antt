@@ -18,7 +18,7 @@ use Rattle.vx_model.specs.AllowedLaws.{IsPlaced}
 use Rattle.vx_model.specs.Contents.{parsed_of}
 use Rattle.vx_model.specs.Images.{Says, is_metadata, contents}
 use Rattle.vx_model.specs.Layout.{is_free}
-use Rattle.vx_model.specs.LaidOut.{IsLaidOut}
+use Rattle.vx_wellformed.specs.WellFormed.{IsWellFormed}
 use Rattle.vx_model.specs.Legal.{World, Waiting, Legal, at_of, after_all}
 use Rattle.vx_model.specs.Replays.{IsLeft}
 use Rattle.vx_model.specs.State.{State}
@@ -51,7 +51,7 @@ abbrev pub IsInside : Super → ℕ × List ℕ → Type 0
 IsInside v e = (4 + log_size v ≤ e.0) × (e.0 < device_size v)
 
 pub record IsMounted (v : Super) (s : State) : Type 0 where
-  pub laid_out : IsLaidOut s
+  pub well_formed : IsWellFormed s
   pub log_blocks : s.layout.log_blocks ≡ v.log_blocks
   pub units : s.layout.units ≡ v.units
 

@@ -23,6 +23,7 @@ use vx_log::{Batch, Log};
 use vx_mkfs::make;
 use vx_model::images::metadata;
 use vx_model::states::fresh_reads;
+use vx_wellformed::laws::well_formed_laws;
 
 /// The sector of the superblock.
 const SUPER_SECTOR: u64 = 0;
@@ -126,6 +127,7 @@ pub fn new_mount<D: BlockDev>(
     // The proof rests on these laws; nothing runs here.
     kernel_laws();
     fresh_reads();
+    well_formed_laws();
     metadata();
     let superblock = Super {
         log_blocks: sizes.log_blocks,

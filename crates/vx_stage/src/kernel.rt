@@ -29,8 +29,8 @@ use vx_dev::{BlockDev, DevFault};
 use vx_home::Homes;
 use vx_layout::Super;
 use vx_log::{AfterImage, Batch, Log, note_laws};
-use vx_model::edits::edit_laws;
 use vx_model::waiting::waiting_laws;
+use vx_wellformed::laws::well_formed_laws;
 
 /// From this position on, the positions begin at 0 again when the log is emptied.
 const RESTART: u64 = 1 << 61;
@@ -567,6 +567,7 @@ impl Kernel {
     {
         // The proof rests on these laws; nothing runs here.
         waiting_laws();
+        well_formed_laws();
         let at = dev.ops();
         self.history.push_reserved(Event::Do {
             at,
@@ -593,7 +594,7 @@ impl Kernel {
     {
         // The proof rests on these laws; nothing runs here.
         kernel_laws();
-        edit_laws();
+        well_formed_laws();
         let at = dev.ops();
         let upto = self.committed;
         self.history.push_reserved(Event::Release { at, upto });
@@ -628,6 +629,7 @@ impl Kernel {
         // The proof rests on these laws, and on what every batch is.
         kernel_laws();
         waiting_laws();
+        well_formed_laws();
         let _count = transaction.len();
         join(&mut self.gathered, transaction.entries());
         let at = dev.ops();

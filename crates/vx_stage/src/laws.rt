@@ -13,6 +13,8 @@ use vx_model::allowed::allowed_laws;
 use vx_model::edits::edit_laws;
 use vx_model::images::{log_says, metadata, sector_contents};
 use vx_model::states::state_reads;
+use vx_sound::sound_laws;
+use vx_wellformed::laws::state_sound;
 
 /// Batches join, and what the log says with one.
 pub fn merge_laws()
@@ -41,6 +43,8 @@ pub fn kernel_laws()
     sector_contents();
     note_laws();
     state_reads();
+    state_sound();
+    sound_laws();
     edit_laws();
     allowed_laws();
 }

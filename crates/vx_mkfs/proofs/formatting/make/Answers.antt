@@ -1,6 +1,7 @@
 use Rattle.std.proofs.Common.{ℕ, List, subst}
 use Rattle.vx_dev.specs.declared.device.Operation.TheVariants.{Put}
 use Rattle.vx_dev.specs.Tape.{Did}
+use Rattle.vx_layout.specs.Supers.{volume_of}
 use Rattle.vx_mkfs.proofs.Formatted.{formatted, left, on_ok}
 use Rattle.vx_mkfs.proofs.formatting.make.Goals as goal
 
@@ -21,5 +22,6 @@ pub returns-clause-left : goal.returns-clause-left
 returns-clause-left g c = λ clean.
     on_ok c.pass-2.result _ _
     (λ new. left c.args.superblock.now c.requires.is (g.D.BlockDev.state c.args.dev.now).size c.requires.size clean
+    (λ image is. c.sound_laws.ensures.weaker (volume_of c.args.superblock.now) image (c.history_sound.ensures.formatted c.args.superblock.now image c.requires.is is))
     (λ image is. c.fresh_reads.ensures.reads c.args.superblock.now image c.requires.is is) (g.D.BlockDev.state c.pass-2.new.dev) new)
     (returns-clause-new g c)

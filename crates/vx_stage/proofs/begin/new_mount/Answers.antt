@@ -13,18 +13,18 @@ returns-clause-run g c =
     let v = c.args.sizes in
     let size = (g.D.BlockDev.state c.args.dev.now).size in
     let d = g.D.BlockDev.state c.make.new.dev in
-    let laid = c.fresh_reads.ensures.laid_out v 1 size c.requires.is (lit≤ tt) c.requires.size in
+    let fits = c.well_formed_laws.ensures.fresh v 1 size c.requires.is (lit≤ tt) c.requires.size in
     subst (λ (n : ℕ). HasRun (opening n (new v size)) d c.begin.result) c.ops-first.ensures.number
-    (c.begin.ensures.run (new v size) d (mounted v size laid) (λ b. refl) (omega (arith, c.ops-first.ensures.number)))
+    (c.begin.ensures.run (new v size) d (mounted v size fits) (λ b. refl) (omega (arith, c.ops-first.ensures.number)))
 
 pub returns-clause-live : goal.returns-clause-live
 returns-clause-live g c =
     let v = c.args.sizes in
     let size = (g.D.BlockDev.state c.args.dev.now).size in
     let d = g.D.BlockDev.state c.make.new.dev in
-    let laid = c.fresh_reads.ensures.laid_out v 1 size c.requires.is (lit≤ tt) c.requires.size in
+    let fits = c.well_formed_laws.ensures.fresh v 1 size c.requires.is (lit≤ tt) c.requires.size in
     let begun = told_begun v size (λ image is. c.fresh_reads.ensures.stands v 1 size image c.requires.is is)
     (λ image stands q there. c.metadata.ensures.holds (volume_of v) (parsed_of (new v size)) image stands q there) d c.in_ok-make.ensures.new in
     subst (λ (n : ℕ). Told d (IsLive (opening n (new v size)) c.begin.result)) c.ops-first.ensures.number
-    (c.begin.ensures.live (new v size) d (mounted v size laid) c.ops-first.ensures.number (g.met.D.BlockDev.in_step c.make.new.dev)
+    (c.begin.ensures.live (new v size) d (mounted v size fits) c.ops-first.ensures.number (g.met.D.BlockDev.in_step c.make.new.dev)
     (subst (λ (l : LogView). Told d (IsBegun v (new v size) l.serial l.head)) (sym c.requires.log) begun))

@@ -27,7 +27,7 @@ pub returns-clause-run : goal.returns-clause-run
 returns-clause-run g c = λ o run may.
     let k = c.args.self.now in
     let d = g.D.BlockDev.state c.args.dev.now in
-    let grows = do_grows c.waiting_laws.ensures o d k c.ops-at.result c.args.session c.args.line c.args.call c.args.reply c.ops-at.ensures.number run may in
+    let grows = do_grows c.waiting_laws.ensures c.well_formed_laws.ensures o d k c.ops-at.result c.args.session c.args.line c.args.call c.args.reply c.ops-at.ensures.number run may in
     run_grows o d k (event.Do c.ops-at.result c.args.session c.args.line c.args.call c.args.reply) run grows (record k { history = c.push_reserved.new.self; gathered = c.join.new.batch }) c.push_reserved.ensures.items refl refl refl refl refl refl refl refl
 
 pub returns-clause-live : goal.returns-clause-live
@@ -37,8 +37,8 @@ returns-clause-live g c = λ o run may batch told.
     let laws = c.kernel_laws.ensures in
     let e : Event = event.Do c.ops-at.result c.args.session c.args.line c.args.call c.args.reply in
     let next = called_state o k c.args.session c.args.call c.args.reply in
-    let grows = do_grows c.waiting_laws.ensures o d k c.ops-at.result c.args.session c.args.line c.args.call c.args.reply c.ops-at.ensures.number run may in
+    let grows = do_grows c.waiting_laws.ensures c.well_formed_laws.ensures o d k c.ops-at.result c.args.session c.args.line c.args.call c.args.reply c.ops-at.ensures.number run may in
     told_grows o d k e run grows (record k { history = c.push_reserved.new.self; gathered = c.join.new.batch }) c.push_reserved.ensures.items refl refl refl refl refl refl refl refl
     (opens_joined o d k e run grows laws.notes c.args.transaction.now c.join.new.batch (c.join.ensures ∙ ap (with_notes k.gathered) c.entries.ensures) c.len-count.ensures.batch.rising
     (of_batch (volume_of k.sizes) (parsed_of (present o k)) (parsed_of next) c.args.transaction.now batch) (young_batch laws k (present o k) next k.closing c.args.transaction.now grows.mounted batch))
-    (do_frees c.waiting_laws.ensures o d k c.ops-at.result c.args.session c.args.line c.args.call c.args.reply c.ops-at.ensures.number run may) (g.met.D.BlockDev.in_step c.args.dev.now) (λ broken. tt) told
+    (do_frees c.waiting_laws.ensures c.well_formed_laws.ensures o d k c.ops-at.result c.args.session c.args.line c.args.call c.args.reply c.ops-at.ensures.number run may) (g.met.D.BlockDev.in_step c.args.dev.now) (λ broken. tt) told
