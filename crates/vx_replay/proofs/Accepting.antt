@@ -1,5 +1,5 @@
 -- An image that replays is read without a refusal.
-use Rattle.std.proofs.Common.{◌≡◌, ℕ, suc, ◌+◌, ◌*◌, ◌<◌, ◌≤◌, ◌^◌, List, [], ◌∷◌, ◌++◌, length, get_or, refl, sym, ap, subst, ◌∙◌, arith, inl, inr, length-append}
+use Rattle.std.proofs.Common.{◌≡◌, ℕ, suc, ◌+◌, ◌*◌, ◌<◌, ◌≤◌, ◌^◌, List, [], ◌∷◌, ◌++◌, length, get_or, refl, sym, ap, subst, ◌∙◌, arith, inl, inr, true, false, length-append}
 use Rattle.std.specs.Prelude.{Result, Ok}
 use Rattle.std.specs.Int.{w32}
 use Rattle.std.specs.List.{AllByRecursion}
@@ -17,6 +17,10 @@ use Rattle.vx_model.specs.Replays.{ReplaysAs}
 use Rattle.vx_model.specs.Tree.{Tree}
 use Rattle.vx_replay.specs.BadImages.{bad, with_room, with_log, checked_super, checked_again, first_super, HasLog, IsBadSuper, IsBadLog, WhyBadLog}
 use Rattle.vx_replay.specs.LogReads.{StandThere, AreRecords, HasNoRecord}
+use Rattle.vx_replay.specs.ImageChecks.{IsFault, is_of_image, laid}
+use Rattle.vx_replay.specs.declared.image_check.CheckRefusal.{CheckRefusal}
+use Rattle.vx_replay.specs.declared.image_check.CheckRefusal.TheVariants as why
+use Rattle.vx_sound.specs.Sound.{SoundLaws, IsBadMeta}
 use Rattle.vx_replay.proofs.LogReading.{length-homes, length-images}
 
 -- what the forms of the superblock and the log say
@@ -149,3 +153,22 @@ module _ (laws : FormLaws) (size : ℕ) (image : ℕ → List ℕ) (tree : Tree)
           (subst (λ (p : ℕ). AreRecords n size p e.position e.records) (sym ends.0) e.are)
           (subst (λ (p : ℕ). StandThere n image p (log_sectors p e.records)) (sym ends.0) e.stand)
           h.log.form h.log.ends h.log.whole (omega (arith, e.before, ends.1)) (subst (λ (p : ℕ). HasNoRecord n size image e.position p) (sym ends.1) e.none)
+
+  -- an image that replays passes the check
+
+  pub passes_check : SoundLaws → (why : CheckRefusal) → is_of_image why ≡ true → IsFault false size image why → ⊥
+  passes_check sound (why.BadSuper field) of (inl first) = super_good field (inl first)
+  passes_check sound (why.BadSuper field) of (inr b) = super_good field (inr (record { first = b.front.first; first_is = b.front.first_is; records = b.front.records; log = b.front.log; last = b.last_is }))
+  passes_check sound (why.BadLog sector) of b = log_good sector b
+  passes_check sound (why.NotClean tail head) of b = absurd cc
+  passes_check sound (why.BadMeta sector) of b =
+      let front = b.whole.front in
+      let first : front.first ≡ h.first = same_first front.first front.first_is in
+      let records : front.records ≡ h.records = log_same front.records (subst (λ (v : Super). HasLog size image v front.records) first front.log) in
+      let last : b.whole.last ≡ h.superblock = ok_same b.whole.last h.superblock
+      (sym b.whole.last_is ∙ (λ i. checked_again size (first i).log_blocks (overlay_all (records i) 0 (image 0))) ∙ last_of) in
+      let there : IsBadMeta false (volume_of h.superblock) (laid h.records image) sector =
+      subst (λ (v : Super). IsBadMeta false (volume_of v) (laid h.records image) sector) last (subst (λ (rs : List (List AfterImage)). IsBadMeta false (volume_of b.whole.last) (laid rs image) sector) records b.first_fault) in
+      sound.refused false (volume_of h.superblock) (laid h.records image) sector h.sound there
+  passes_check sound why.ReadFault of b = absurd cc
+  passes_check sound why.NoMemory of b = absurd cc

@@ -13,7 +13,7 @@ use Rattle.vx_layout.specs.Supers.{IsSuper, super_bytes, volume_of}
 use Rattle.vx_log.specs.Crashes.{Stands}
 use Rattle.vx_dev.specs.Moments.{Told, Passed}
 use Rattle.vx_dev.proofs.Claims.{passed_did, passed_join, passed_still, told_weaker}
-use Rattle.vx_model.specs.Reads.{ImageReadsAs}
+use Rattle.vx_replay.specs.Holding.{HoldsTree}
 use Rattle.vx_model.specs.Replays.{ReplaysAs, IsLeft}
 use Rattle.vx_model.specs.Tree.{Tree}
 use Rattle.vx_replay.specs.ReplayLaws.{ReplayLaws}
@@ -38,7 +38,7 @@ module _ (laws : ReplayLaws) (size : ℕ) (sb : Super) (is_super : IsSuper sb) (
     above : (q : ℕ) → 4 + n ≤ q → IsTrue (reading.is_metadata q)
     not_super : reading.is_metadata 0 ≡ false
     superblock : (x : List ℕ) → MayHold t 0 x → (x ≡ super_bytes sb) ⊎ (x ≡ clean_bytes)
-    reads : ImageReadsAs (volume_of sb) reading.contents tree
+    holds : HoldsTree (volume_of sb) reading.contents tree
 
   begins : (t : Tape) → IsEmptied sb tree t → IsMarking t
   begins t k = record {
@@ -51,7 +51,7 @@ module _ (laws : ReplayLaws) (size : ℕ) (sb : Super) (is_super : IsSuper sb) (
     above = k.above;
     not_super = k.not_super;
     superblock = λ x may. inl (k.superblock x may);
-    reads = k.reads;
+    holds = k.holds;
   }
 
   abbrev Good : (ℕ → List ℕ) → Type 0
@@ -63,8 +63,8 @@ module _ (laws : ReplayLaws) (size : ℕ) (sb : Super) (is_super : IsSuper sb) (
       let form : AllByRecursion (IsRecord n size) k.reading.records = subst (AllByRecursion (IsRecord n size)) (sym k.records) tt in
       let bare : overlay_all k.reading.records 0 (image 0) ≡ image 0 = ap (λ (rs : List (List AfterImage)). overlay_all rs 0 (image 0)) k.records in
       elim (k.superblock (image 0) (is 0)) [
-        | inl before ↦ good laws tree size sb sb refl is_super room k.reading.contents k.reads k.reading sb.clean image k.serial k.limit form k.above (λ q. refl) rd (bare ∙ before) sb is_super before room refl
-        | inr after ↦ good laws tree size sb sb refl is_super room k.reading.contents k.reads k.reading true image k.serial k.limit form k.above (λ q. refl) rd (bare ∙ after) (marked sb true) (marked_super sb true is_super) after room refl
+        | inl before ↦ good laws tree size sb sb refl is_super room k.reading.contents k.holds k.reading sb.clean image k.serial k.limit form k.above (λ q. refl) rd (bare ∙ before) sb is_super before room refl
+        | inr after ↦ good laws tree size sb sb refl is_super room k.reading.contents k.holds k.reading true image k.serial k.limit form k.above (λ q. refl) rd (bare ∙ after) (marked sb true) (marked_super sb true is_super) after room refl
       ]
 
   shown : (d : Device) → Told d IsMarking → Told d (λ t. (image : ℕ → List ℕ) → IsImage t image → Good image)
@@ -85,7 +85,7 @@ module _ (laws : ReplayLaws) (size : ℕ) (sb : Super) (is_super : IsSuper sb) (
     above = k.above;
     not_super = k.not_super;
     superblock = λ x may. elim (w.may t 0 x may) [ inl before ↦ k.superblock x before | inr here ↦ inr here.1 ];
-    reads = k.reads;
+    holds = k.holds;
   }
 
   after_barrier : (t : Tape) → IsMarking t → IsMarking (did Barrier t)
@@ -99,7 +99,7 @@ module _ (laws : ReplayLaws) (size : ℕ) (sb : Super) (is_super : IsSuper sb) (
     above = k.above;
     not_super = k.not_super;
     superblock = λ x may. k.superblock x (laws.tape.barrier_adds t 0 x may);
-    reads = k.reads;
+    holds = k.holds;
   }
 
   -- a barrier now leaves the superblock of a clean image
@@ -112,6 +112,9 @@ module _ (laws : ReplayLaws) (size : ℕ) (sb : Super) (is_super : IsSuper sb) (
       let image : ℕ → List ℕ = now (did Barrier t) in
       let is : IsImage (did Barrier t) image = (λ q. laws.tape.now_may (did Barrier t) q) in
       let rd = laws.image_reads n k.reading (did Barrier t) image k.stands is in
+      let alike : HoldsTree (volume_of sb) image tree =
+      laws.alike (volume_of sb) k.reading.contents image tree (laws.volume sb)
+      (λ q place. sym (rd.metadata q (k.above q (laws.past_log sb q place))) ∙ ap (λ (rs : List (List AfterImage)). overlay_all rs q (image q)) k.records) k.holds in
       record {
         one = λ q x may. laws.tape.barrier_leaves_one t q x may;
         clean = record {
@@ -125,8 +128,8 @@ module _ (laws : ReplayLaws) (size : ℕ) (sb : Super) (is_super : IsSuper sb) (
           serial_limit = k.serial;
           limit = k.limit;
           head_is = rd.head_is ∙ ap (λ (p : ℕ). head_sector k.reading.serial p k.reading.head) k.level;
-          reads = laws.alike (volume_of sb) k.reading.contents image tree (laws.volume sb)
-              (λ q place. sym (rd.metadata q (k.above q (laws.past_log sb q place))) ∙ ap (λ (rs : List (List AfterImage)). overlay_all rs q (image q)) k.records) k.reads;
+          sound = alike.sound;
+          reads = alike.reads;
         };
       }
 

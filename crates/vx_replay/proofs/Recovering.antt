@@ -6,6 +6,7 @@ use Rattle.vx_layout.specs.declared.superblock.Super.{Super}
 use Rattle.vx_layout.specs.LogForms.{AfterImage, head_sector, log_sectors, overlay_all}
 use Rattle.vx_layout.specs.Supers.{IsSuper, super_bytes, volume_of}
 use Rattle.vx_model.specs.Reads.{ImageReadsAs}
+use Rattle.vx_sound.specs.Sound.{IsSound}
 use Rattle.vx_model.specs.Replays.{ReplaysAs, IsClean}
 use Rattle.vx_model.specs.Tree.{Tree}
 use Rattle.vx_replay.specs.LogReads.{StandThere, AreRecords}
@@ -55,6 +56,7 @@ module _ (size : ℕ) (image : ℕ → List ℕ) (s : Stopped) (is_super : IsSup
         serial_limit = read.is_ends.serial;
         limit = omega (arith, e.limit, even);
         head_is = read.head_is ∙ ap (λ (p : ℕ). head_sector read.ends.serial read.ends.tail p) (sym even);
+        sound = subst (λ (rs : List (List AfterImage)). IsSound false (volume_of h.superblock) (λ q. overlay_all rs q (image q))) none h.sound;
         reads = subst (λ (rs : List (List AfterImage)). ImageReadsAs (volume_of h.superblock) (λ q. overlay_all rs q (image q)) tree) none h.reads;
       }
 

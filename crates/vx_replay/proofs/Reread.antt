@@ -16,7 +16,7 @@ use Rattle.vx_log.specs.Stages.{AreHomes, AreWritten, AreHomesPut}
 use Rattle.vx_log.specs.Logs.{next_serial}
 use Rattle.vx_log.specs.Batches.{with_notes, noted_at}
 use Rattle.vx_log.specs.NoteLaws.{NoteLaws}
-use Rattle.vx_model.specs.Reads.{ImageReadsAs}
+use Rattle.vx_replay.specs.Holding.{HoldsTree}
 use Rattle.vx_model.specs.Replays.{HasRecords, ReplaysAs}
 use Rattle.vx_model.specs.Tree.{Tree}
 use Rattle.vx_replay.specs.ReplayLaws.{ReplayLaws}
@@ -114,7 +114,7 @@ marked_super s b is = record { log_low = is.log_low; log_high = is.log_high; uni
 -- ---- images
 
 module _ (laws : ReplayLaws) (tree : Tree) (size : ℕ) (sb first : Super) (same_log : sb.log_blocks ≡ first.log_blocks) (is_super : IsSuper sb) (room : sectors_of (volume_of sb) ≤ size) (over : ℕ → List ℕ)
-    (reads : ImageReadsAs (volume_of sb) over tree) where
+    (holds : HoldsTree (volume_of sb) over tree) where
   -- an image with such a log and such superblocks
   pub good : (r : LogState) (b : Bool) (image : ℕ → List ℕ) → r.serial < 2 ^ 64 → r.head ≤ 2 ^ 62 → AllByRecursion (IsRecord (2 * first.log_blocks) size) r.records
       → ((q : ℕ) → 4 + 2 * first.log_blocks ≤ q → IsTrue (r.is_metadata q)) → ((q : ℕ) → r.contents q ≡ over q) → ReadsAs (2 * first.log_blocks) r image
@@ -132,6 +132,9 @@ module _ (laws : ReplayLaws) (tree : Tree) (size : ℕ) (sb first : Super) (same
         fits = rd.fits;
         whole = rd.whole;
       } in
+      let alike : HoldsTree (volume_of sb) (λ q. overlay_all r.records q (image q)) tree =
+      laws.alike (volume_of sb) over (λ q. overlay_all r.records q (image q)) tree (laws.volume sb)
+      (λ q place. sym (rd.metadata q (above q (let past : 4 + 2 * sb.log_blocks ≤ q = laws.past_log sb q place in omega (arith, past, same_log))) ∙ contents q)) holds in
       record {
         first = v;
         is_first = is_v;
@@ -144,8 +147,8 @@ module _ (laws : ReplayLaws) (tree : Tree) (size : ℕ) (sb first : Super) (same
         same_log = same_log ∙ sym same;
         room = room;
         log = subst (λ (k : ℕ). HasRecords (2 * k) size image r.records) (sym same) log;
-        reads = laws.alike (volume_of sb) over (λ q. overlay_all r.records q (image q)) tree (laws.volume sb)
-            (λ q place. sym (rd.metadata q (above q (let past : 4 + 2 * sb.log_blocks ≤ q = laws.past_log sb q place in omega (arith, past, same_log))) ∙ contents q)) reads;
+        sound = alike.sound;
+        reads = alike.reads;
       }
 
 module _ (laws : ReplayLaws) (size : ℕ) (image : ℕ → List ℕ) (tree : Tree) (s : Stopped) (read : IsReadFrom size image s) (is_super : IsSuper s.superblock) where
@@ -223,7 +226,7 @@ module _ (laws : ReplayLaws) (size : ℕ) (image : ℕ → List ℕ) (tree : Tre
 
   -- ---- images
 
-  module _ (reads : ImageReadsAs (volume_of s.superblock) over tree) where
+  module _ (holds : HoldsTree (volume_of s.superblock) over tree) where
     super_of : (x : List ℕ) → Contains values x → (v : Super) × IsSuper v × (x ≡ super_bytes v) × (sectors_of (volume_of v) ≤ size) × (v.log_blocks ≡ read.first.log_blocks)
     super_of x has = elim (one_of_two (image 0) (over 0) x has) [
       | inl start ↦ (read.first, read.is_first, sym start ∙ read.first_is, read.first_room, refl)
@@ -233,14 +236,14 @@ module _ (laws : ReplayLaws) (size : ℕ) (image : ℕ → List ℕ) (tree : Tre
     pub good_before : (other : ℕ → List ℕ) → ReadsAs n r0 other → Contains values (other 0) → ReplaysAs size other tree
     good_before other rd has =
         let v = super_of (other 0) has in
-        good laws tree size s.superblock read.first read.same_log is_super read.room over reads r0 s.superblock.clean other read.is_ends.serial read.is_ends.limit read.are.form (above_home n) (λ q. refl) rd
+        good laws tree size s.superblock read.first read.same_log is_super read.room over holds r0 s.superblock.clean other read.is_ends.serial read.is_ends.limit read.are.form (above_home n) (λ q. refl) rd
         (rd.metadata 0 refl ∙ read.superblock_is) v.0 v.1 v.2 v.3 v.4
 
     pub good_after : (other : ℕ → List ℕ) → ReadsAs n (emptied r0) other → ReplaysAs size other tree
     good_after other rd =
         let last : other 0 ≡ super_bytes s.superblock = rd.metadata 0 refl ∙ read.superblock_is in
         let low : next_serial read.ends.serial < 2 ^ 64 = omega arith in
-        good laws tree size s.superblock read.first read.same_log is_super read.room over reads (emptied r0) s.superblock.clean other low read.is_ends.limit tt (above_home n) (λ q. refl) rd
+        good laws tree size s.superblock read.first read.same_log is_super read.room over holds (emptied r0) s.superblock.clean other low read.is_ends.limit tt (above_home n) (λ q. refl) rd
         last s.superblock is_super last read.room read.same_log
 
 -- ---- on a device of so many sectors

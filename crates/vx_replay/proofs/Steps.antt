@@ -11,11 +11,11 @@ use Rattle.vx_layout.specs.LogForms.{AfterImage, LogState, ReadsAs, log_at, log_
 use Rattle.vx_layout.specs.Supers.{IsSuper, super_bytes, volume_of}
 use Rattle.vx_log.specs.Crashes.{Stands, emptied}
 use Rattle.vx_dev.specs.Moments.{Told, Always, Passed, HoldsOneOf}
-use Rattle.vx_log.specs.Readings.{IsReading}
+use Rattle.vx_replay.specs.TailMoves.{IsReading}
 use Rattle.vx_dev.specs.Runs.{did_all, Ran, BrokeOff, puts}
 use Rattle.vx_log.specs.Stages.{AreWritten, AreHomesPut}
 use Rattle.vx_dev.proofs.Claims.{passed_join, passed_still, passed_weaker, told_weaker}
-use Rattle.vx_model.specs.Reads.{ImageReadsAs}
+use Rattle.vx_replay.specs.Holding.{HoldsTree}
 use Rattle.vx_model.specs.Replays.{HasRecords, ReplaysAs}
 use Rattle.vx_model.specs.Tree.{Tree}
 use Rattle.vx_replay.specs.ReplayLaws.{ReplayLaws}
@@ -86,9 +86,9 @@ module _ (laws : ReplayLaws) (size : ℕ) (image : ℕ → List ℕ) (tree : Tre
   super_same = laws.supers h.superblock s.superblock h.is_super is_super
       (sym h.superblock_is ∙ ap (λ (rs : List (List AfterImage)). overlay_all rs 0 (image 0)) records_same ∙ read.superblock_is)
 
-  pub linked_reads : ImageReadsAs (volume_of s.superblock) (λ q. overlay_all read.records q (image q)) tree
-  linked_reads = subst (λ (v : Super). ImageReadsAs (volume_of v) (λ q. overlay_all read.records q (image q)) tree) super_same
-      (subst (λ (rs : List (List AfterImage)). ImageReadsAs (volume_of h.superblock) (λ q. overlay_all rs q (image q)) tree) records_same h.reads)
+  pub linked_holds : HoldsTree (volume_of s.superblock) (λ q. overlay_all read.records q (image q)) tree
+  linked_holds = subst (λ (v : Super). HoldsTree (volume_of v) (λ q. overlay_all read.records q (image q)) tree) super_same
+      (subst (λ (rs : List (List AfterImage)). HoldsTree (volume_of h.superblock) (λ q. overlay_all rs q (image q)) tree) records_same (record { sound = h.sound; reads = h.reads }))
 
 -- ---- the steps
 
@@ -111,14 +111,14 @@ module _ (laws : ReplayLaws) (d0 d1 : Device) (t : Tape) (tree : Tree) (s : Stop
   some : 0 < n
   some = reread.some laws d0.size image tree s h.read is_super
 
-  reads : ImageReadsAs (volume_of s.superblock) over tree
-  reads = linked_reads laws d0.size image tree s is_super h.replays h.read
+  holds : HoldsTree (volume_of s.superblock) over tree
+  holds = linked_holds laws d0.size image tree s is_super h.replays h.read
 
   abbrev Good : (ℕ → List ℕ) → Type 0
   Good other = ReplaysAs d0.size other tree
 
   good_before : (other : ℕ → List ℕ) → ReadsAs n r0 other × Contains values (other 0) → Good other
-  good_before other both = reread.good_before laws d0.size image tree s h.read is_super reads other both.0 both.1
+  good_before other both = reread.good_before laws d0.size image tree s h.read is_super holds other both.0 both.1
 
   abbrev t1 : Tape
   t1 = did Barrier t
@@ -190,7 +190,7 @@ module _ (laws : ReplayLaws) (d0 d1 : Device) (t : Tape) (tree : Tree) (s : Stop
         above = λ q le. le-leb (4 + n) q (omega (arith, le, same));
         not_super = lt-leb (4 + n) 0 (omega arith);
         superblock = superblock;
-        reads = laws.alike (volume_of s.superblock) over r.contents tree (laws.volume s.superblock) (λ q place. sym (contents q)) reads;
+        holds = laws.alike (volume_of s.superblock) over r.contents tree (laws.volume s.superblock) (λ q place. sym (contents q)) holds;
       }
 
   no_records : (position : ℕ) (rs : List (List AfterImage)) → length (log_sectors position rs) ≡ 0 → rs ≡ []
@@ -227,7 +227,7 @@ module _ (laws : ReplayLaws) (d0 d1 : Device) (t : Tape) (tree : Tree) (s : Stop
         (passed_weaker (λ other. (ReadsAs s.log.sectors r0 other ⊎ ReadsAs s.log.sectors (emptied r0) other) × Contains values (other 0)) Good d2 d3
         (λ other is. elim is.0 [
           | inl before ↦ good_before other (subst (λ (k : ℕ). ReadsAs k r0 other) h.read.sectors before, is.1)
-          | inr after ↦ reread.good_after laws d0.size image tree s h.read is_super reads other (subst (λ (k : ℕ). ReadsAs k (emptied r0) other) h.read.sectors after)
+          | inr after ↦ reread.good_after laws d0.size image tree s h.read is_super holds other (subst (λ (k : ℕ). ReadsAs k (emptied r0) other) h.read.sectors after)
         ]) both)
 
     pub emptied_left : ((r : LogState) → IsReading s.log r → Told d2 (AreHomesPut s.log.sectors r) → Told d3 (Stands s.log.sectors (emptied r))) → Told d3 (IsEmptied s.superblock tree)

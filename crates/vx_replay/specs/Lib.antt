@@ -1,6 +1,10 @@
 pub mod LogReads
 pub mod Refusals
 pub mod Stopped
+pub mod TailMoves
+pub mod Holding
 pub mod ReplayLaws
 pub mod BadImages
 pub mod Replayed
+pub mod Fronts
+pub mod ImageChecks

@@ -9,6 +9,7 @@ use Rattle.vx_replay.specs.declared.refusal.ReplayRefusal.TheVariants as no
 abbrev pub ReadCause : State → State → ReplayRefusal → Type 0
 ReadCause old new no.ReadFault = Rose old.read_faults new.read_faults
 ReadCause old new no.WriteFault = ⊥
+ReadCause old new (no.BadMeta sector) = ⊥
 ReadCause old new _ = Unit {0}
 
 abbrev pub IsReadRefusal : {T : Type 0} → State → State → Result T ReplayRefusal → Type 0
@@ -20,6 +21,7 @@ abbrev pub LogCause : State → State → ReplayRefusal → Type 0
 LogCause old new no.ReadFault = Rose old.read_faults new.read_faults
 LogCause old new no.WriteFault = ⊥
 LogCause old new (no.BadSuper field) = ⊥
+LogCause old new (no.BadMeta sector) = ⊥
 LogCause old new _ = Unit {0}
 
 abbrev pub IsLogRefusal : {T : Type 0} → State → State → Result T ReplayRefusal → Type 0

@@ -9,7 +9,7 @@ use Rattle.vx_log.specs.Ends.{IsEnds, ends_bytes}
 use Rattle.vx_log.specs.declared.read.Ends.{Ends}
 use Rattle.vx_log.specs.Batches.{with_notes}
 use Rattle.vx_log.specs.Crashes.{Stands}
-use Rattle.vx_model.specs.Reads.{ImageReadsAs}
+use Rattle.vx_replay.specs.Holding.{HoldsTree}
 use Rattle.vx_model.specs.Replays.{ReplaysAs}
 use Rattle.vx_model.specs.Tree.{Tree}
 use Rattle.vx_replay.specs.BadImages.{first_super}
@@ -70,4 +70,4 @@ pub record IsEmptied (s : Super) (tree : Tree) (t : Tape) : Type 0 where
   pub above : (q : ℕ) → 4 + 2 * s.log_blocks ≤ q → IsTrue (reading.is_metadata q)
   pub not_super : reading.is_metadata 0 ≡ false
   pub superblock : (x : List ℕ) → MayHold t 0 x → x ≡ super_bytes s
-  pub reads : ImageReadsAs (volume_of s) reading.contents tree
+  pub holds : HoldsTree (volume_of s) reading.contents tree

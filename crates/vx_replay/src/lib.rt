@@ -1,6 +1,7 @@
 //! The replay of a stopped image's log: what the log holds is carried home, and the image is left clean.
 #![tactic(auto)]
 
+mod image_check;
 mod laws;
 mod load;
 mod read;
@@ -8,6 +9,7 @@ mod refusal;
 mod top;
 mod writing;
 
+pub use image_check::{CheckRefusal, Checked, check};
 pub use laws::never_refused;
 pub use refusal::ReplayRefusal;
 pub use top::{Recovered, replay};

@@ -9,6 +9,7 @@ ghost use Rattle.vx_log.specs.Batches.{noted_at};
 ghost use Rattle.vx_replay.specs.BadImages.{bad, with_room, checked_super, checked_again, first_super, IsBadSuper, IsBadLog, WhyBadLog};
 ghost use Rattle.vx_replay.specs.LogReads.{Shows, IsRead, StandThere, AreRecords, image_count, starts_at};
 ghost use Rattle.vx_replay.specs.Refusals.{IsReadRefusal, IsLogRefusal, IsSuperRefusal};
+ghost use Rattle.vx_replay.specs.Fronts.{CanLoad, IsFrontOf};
 ghost use Rattle.vx_replay.specs.Stopped.{CanCarry, IsReadFrom, noted_all};
 
 use crate::read::{Record, read_records, read_sector};
@@ -124,9 +125,9 @@ fn starts_of(
 
 /// Where a log's live part stands, and the records in it.
 #[derive(Drop)]
-struct LogRead {
-    ends: Ends,
-    records: Vec<Record>,
+pub struct LogRead {
+    pub ends: Ends,
+    pub records: Vec<Record>,
 }
 
 /// The log of this superblock.
@@ -170,26 +171,30 @@ fn last_super(homes: &Homes, first_sector: &[u8; 512]) -> [u8; 512]
     }
 }
 
-/// What an image says whose sector 0 is this and whose log was read.
-fn loaded(
-    alloc: Global,
-    size: u64,
-    first_sector: &[u8; 512],
-    first: Super,
-    log: LogRead,
-) -> Result<Stopped, ReplayRefusal>
-    requires is { IsSuper first }
-    requires room { sectors_of (volume_of first) ≤ size }
-    requires ends { IsEnds (2 * first.log_blocks) log.ends }
-    requires are { AreRecords (2 * first.log_blocks) size log.ends.tail log.ends.head log.records.items }
-    ensures read { (image : ℕ → List ℕ) → image 0 ≡ first_sector.now → first_sector.now ≡ super_bytes first → first_super size image ≡ Ok first → image 2 ≡ ends_bytes log.ends
-        → StandThere (2 * first.log_blocks) image log.ends.tail (log_sectors log.ends.tail log.records.items) → IfOk result (IsReadFrom size image) }
+/// The superblock of an image as it stands in sector 0, and its log.
+#[derive(Drop)]
+pub struct Front {
+    pub first_sector: [u8; 512],
+    pub first: Super,
+    pub log: LogRead,
+}
+
+/// What an image says whose superblock and log were read.
+pub fn loaded(alloc: Global, size: u64, front: Front) -> Result<Stopped, ReplayRefusal>
+    requires { CanLoad size front }
+    ensures read { (image : ℕ → List ℕ) → IsFrontOf size image front → IfOk result (IsReadFrom size image) }
     ensures sound { IfOk result (CanCarry size) }
-    ensures bad { (field : ℕ) → result ≡ Err (ReplayRefusal.BadSuper field) → checked_again size first.log_blocks (overlay_all log.records.items 0 first_sector.now) ≡ bad field }
+    ensures ends { IfOk result (λ s. (s.log.tail ≡ front.log.ends.tail) × (s.log.head ≡ front.log.ends.head)) }
+    ensures bad { (field : ℕ) → result ≡ Err (ReplayRefusal.BadSuper field) → checked_again size front.first.log_blocks (overlay_all front.log.records.items 0 front.first_sector) ≡ bad field }
     ensures cause { IsSuperRefusal result }
 {
     // The proof rests on this law; nothing runs here.
     note_laws();
+    let Front {
+        first_sector,
+        first,
+        log,
+    } = front;
     let tail = log.ends.tail;
     let records = log.records.as_slice();
     let Ok(homes) = homes_of(alloc, records) else {
@@ -198,7 +203,7 @@ fn loaded(
     let Ok(starts) = starts_of(alloc, first.log_blocks, tail, records) else {
         return Err(ReplayRefusal::NoMemory);
     };
-    match checked_again(&last_super(&homes, first_sector), first.log_blocks, size) {
+    match checked_again(&last_super(&homes, &first_sector), first.log_blocks, size) {
         Ok(superblock) => Ok(Stopped {
             superblock,
             log: Log::standing(first.log_blocks, log.ends, starts),
@@ -210,11 +215,11 @@ fn loaded(
     }
 }
 
-/// Reads the superblock, the log's ends and its records, and checks the superblock that they leave. Nothing is written.
-pub fn load<D: BlockDev>(alloc: Global, dev: &mut D) -> Result<Stopped, ReplayRefusal>
-    ensures read { (t : Tape) → Shows (D.state dev.old) t → IfOk result (IsReadFrom (D.state dev.old).size (now t)) }
-    ensures sound { IfOk result (CanCarry (D.state dev.old).size) }
-    ensures bad_super { (t : Tape) (field : ℕ) → Shows (D.state dev.old) t → result ≡ Err (ReplayRefusal.BadSuper field) → IsBadSuper (D.state dev.old).size (now t) field }
+/// Reads the superblock, the log's ends and its records.
+pub fn read_front<D: BlockDev>(alloc: Global, dev: &mut D) -> Result<Front, ReplayRefusal>
+    ensures front { (t : Tape) → Shows (D.state dev.old) t → IfOk result (IsFrontOf (D.state dev.old).size (now t)) }
+    ensures sound { IfOk result (CanLoad (D.state dev.old).size) }
+    ensures bad_super { (t : Tape) (field : ℕ) → Shows (D.state dev.old) t → result ≡ Err (ReplayRefusal.BadSuper field) → first_super (D.state dev.old).size (now t) ≡ bad field }
     ensures bad_log { (t : Tape) (sector : ℕ) → Shows (D.state dev.old) t → result ≡ Err (ReplayRefusal.BadLog sector) → IsBadLog (D.state dev.old).size (now t) sector }
     ensures unwritten { IsRead (D.state dev.old) (D.state dev.new) }
     ensures cause { IsReadRefusal (D.state dev.old) (D.state dev.new) result }
@@ -230,9 +235,28 @@ pub fn load<D: BlockDev>(alloc: Global, dev: &mut D) -> Result<Stopped, ReplayRe
         Ok(first) => first,
         Err(bad) => return Err(ReplayRefusal::BadSuper { field: bad.field }),
     };
-    let log = match read_log(alloc, dev, &first) {
-        Ok(log) => log,
-        Err(why) => return Err(why),
-    };
-    loaded(alloc, size, &first_sector, first, log)
+    match read_log(alloc, dev, &first) {
+        Ok(log) => Ok(Front {
+            first_sector,
+            first,
+            log,
+        }),
+        Err(why) => Err(why),
+    }
+}
+
+/// Reads the superblock, the log's ends and its records, and checks the superblock that they leave. Nothing is written.
+pub fn load<D: BlockDev>(alloc: Global, dev: &mut D) -> Result<Stopped, ReplayRefusal>
+    ensures read { (t : Tape) → Shows (D.state dev.old) t → IfOk result (IsReadFrom (D.state dev.old).size (now t)) }
+    ensures sound { IfOk result (CanCarry (D.state dev.old).size) }
+    ensures bad_super { (t : Tape) (field : ℕ) → Shows (D.state dev.old) t → result ≡ Err (ReplayRefusal.BadSuper field) → IsBadSuper (D.state dev.old).size (now t) field }
+    ensures bad_log { (t : Tape) (sector : ℕ) → Shows (D.state dev.old) t → result ≡ Err (ReplayRefusal.BadLog sector) → IsBadLog (D.state dev.old).size (now t) sector }
+    ensures unwritten { IsRead (D.state dev.old) (D.state dev.new) }
+    ensures cause { IsReadRefusal (D.state dev.old) (D.state dev.new) result }
+{
+    let size = dev.sectors();
+    match read_front(alloc, dev) {
+        Ok(front) => loaded(alloc, size, front),
+        Err(why) => Err(why),
+    }
 }

@@ -10,6 +10,8 @@ pub enum ReplayRefusal {
     BadSuper { field: u32 },
     /// The sector of the log that is wrong: the head sector, or that of a descriptor.
     BadLog { sector: u64 },
+    /// The sector of the metadata that is wrong (docs/CHECK.md).
+    BadMeta { sector: u64 },
     ReadFault,
     WriteFault,
     NoMemory,

@@ -1,5 +1,5 @@
 //! Devices that hold no file system.
-use crate::{ReplayRefusal, replay};
+use crate::{CheckRefusal, ReplayRefusal, check, replay};
 use std::alloc::{AllocError, Global};
 use std::test::Fail;
 use vx_base::NumList;
@@ -19,6 +19,8 @@ fn zeros(rt: HostRuntime) -> Result<(), Fail> {
             replay(rt.alloc(), &mut disk),
             Err(ReplayRefusal::BadSuper { field: 1 })
         );
+        let checked = check(rt.alloc(), &mut disk, true);
+        assert!(rt; matches!(checked, Err(CheckRefusal::BadSuper { field: 1 })));
         assert_eq!(rt; disk.ops(), 0);
     }
     Ok(())

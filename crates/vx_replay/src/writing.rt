@@ -1,20 +1,25 @@
 //! What a log holds is carried home.
-ghost use Rattle.std.specs.Prelude.{◌≡◌, ◌+◌, ◌<◌, ◌≤◌, ℕ, OnOk, length};
+ghost use Rattle.std.specs.Prelude.{◌≡◌, ◌≢◌, ◌⊎◌, ◌+◌, ◌<◌, ◌≤◌, ℕ, List, IsNone, OnOk, Contains, length};
 ghost use Rattle.vx_base.specs.Faults.{HasCause};
 ghost use Rattle.vx_dev.specs.Tape.{Tape};
 ghost use Rattle.vx_layout.specs.Places.{sectors_of};
 ghost use Rattle.vx_layout.specs.Supers.{IsSuper, volume_of};
-ghost use Rattle.vx_dev.specs.Moments.{Told, Always, Passed};
+ghost use Rattle.vx_dev.specs.Moments.{Told, Always, Passed, HoldsOneOf};
+ghost use Rattle.vx_layout.specs.LogForms.{LogState, ReadsAs};
+ghost use Rattle.vx_log.specs.Crashes.{Stands, emptied};
+ghost use Rattle.vx_log.specs.Stages.{AreHomesPut};
 ghost use Rattle.vx_model.specs.Replays.{ReplaysAs, IsLeft};
 ghost use Rattle.vx_model.specs.Tree.{Tree};
 ghost use Rattle.vx_replay.specs.ReplayLaws.{ReplayLaws};
+ghost use Rattle.vx_replay.specs.TailMoves.{IsReading};
 ghost use Rattle.vx_replay.specs.Stopped.{CanCarry, IsReplayOf, IsEmptied};
 
 use crate::load::Stopped;
 use vx_dev::{BlockDev, DevFault, tape_laws, value_laws};
 use vx_layout::{Super, log_spelling, super_places, super_spelling};
-use vx_log::{home_laws, image_laws, note_laws};
+use vx_log::{Log, head_laws, home_laws, image_laws, note_laws};
 use vx_model::reads::reads_alike;
+use vx_wellformed::laws::sound_alike;
 
 /// Writes home what the log holds, moves its tail to its head, and marks the image clean: a barrier, the homes, a barrier, the
 /// head sector, a barrier, the superblock, a barrier. The log's part is left out where it holds nothing.
@@ -52,7 +57,31 @@ fn empty_log<D: BlockDev>(dev: &mut D, stopped: &mut Stopped) -> Result<(), DevF
         return Ok(());
     }
     stopped.homes.put_all(dev)?;
-    stopped.log.empty(dev)
+    move_tail(dev, &mut stopped.log)
+}
+
+/// Moves the log's tail to its head, where all homes are written: a barrier, the head sector with the new tail, a barrier. After a
+/// fault the tail has moved or not, and the log is good for nothing more.
+fn move_tail<D: BlockDev>(dev: &mut D, log: &mut Log) -> Result<(), DevFault>
+    requires free { IsNone log.old.closing }
+    requires area { 4 + log.old.sectors ≤ (D.state dev.old).size }
+    ensures stands { (r : LogState) → IsReading log.old r → Told (D.state dev.old) (AreHomesPut log.old.sectors r)
+        → OnOk result (Told (D.state dev.new) (Stands log.old.sectors (emptied r))) }
+    ensures passed { (r : LogState) → IsReading log.old r → Told (D.state dev.old) (AreHomesPut log.old.sectors r)
+        → Passed (λ image. ReadsAs log.old.sectors r image ⊎ ReadsAs log.old.sectors (emptied r) image) (D.state dev.old) (D.state dev.new) }
+    // What a crash may leave in any other sector stays.
+    ensures elsewhere { (s : ℕ) (values : List (List ℕ)) → s ≢ 2 → Told (D.state dev.old) (HoldsOneOf s values)
+        → Passed (λ image. Contains values (image s)) (D.state dev.old) (D.state dev.new) }
+    ensures size { (D.state dev.new).size ≡ (D.state dev.old).size }
+    ensures later { (D.state dev.old).count ≤ (D.state dev.new).count }
+    ensures reads { (D.state dev.new).read_faults ≡ (D.state dev.old).read_faults }
+    ensures cause { HasCause (D.state dev.old).write_faults (D.state dev.new).write_faults result }
+{
+    replay_laws();
+    let head = log.head();
+    dev.barrier()?;
+    log.advance_tail(dev, head)?;
+    dev.barrier()
 }
 
 /// Writes the superblock of an image that was left clean.
@@ -81,6 +110,7 @@ fn replay_laws()
 {
     tape_laws();
     image_laws();
+    head_laws();
     home_laws();
     value_laws();
     note_laws();
@@ -88,4 +118,5 @@ fn replay_laws()
     super_spelling();
     super_places();
     reads_alike();
+    sound_alike();
 }

@@ -4,7 +4,7 @@ use Rattle.vx_dev.specs.declared.device.DevFault.{DevFault}
 use Rattle.vx_layout.specs.LogForms.{LogState}
 use Rattle.vx_log.specs.Crashes.{Stands, emptied}
 use Rattle.vx_dev.specs.Moments.{Told}
-use Rattle.vx_log.specs.Readings.{IsReading}
+use Rattle.vx_replay.specs.TailMoves.{IsReading}
 use Rattle.vx_log.specs.Stages.{AreHomesPut}
 use Rattle.vx_replay.proofs.Steps as steps
 use Rattle.vx_replay.proofs.writing.empty_log.Goals as goal
@@ -36,10 +36,10 @@ returns-clause-kept g c = λ t tree h.
     let d0 = g.D.BlockDev.state c.args.dev.now in
     let d1 = g.D.BlockDev.state c.barrier.new.self in
     let d2 = g.D.BlockDev.state c.put_all.new.dev in
-    let d3 = g.D.BlockDev.state c.empty.new.dev in
+    let d3 = g.D.BlockDev.state c.move_tail.new.dev in
     steps.always c.replay_laws.ensures d0 d1 t tree c.args.stopped.now h c.requires.superblock c.in_ok-barrier.ensures.passed d3
     (steps.emptied_passed c.replay_laws.ensures d0 d1 t tree c.args.stopped.now h c.requires.superblock c.in_ok-barrier.ensures.passed d2 d3 c.in_ok-put_all.ensures.ran
-    c.empty.ensures.passed c.empty.ensures.elsewhere)
+    c.move_tail.ensures.passed c.move_tail.ensures.elsewhere)
 
 finish : (r : Result (Unit {0}) DevFault) (P Q R : LogState → Type 0) {C : Type 0} → ((l : LogState) → P l → Q l → OnOk r (R l)) → (((l : LogState) → P l → Q l → R l) → C) → OnOk r C
 finish (Ok x) P Q R stands f = f stands
@@ -50,7 +50,7 @@ returns-clause-emptied g c = λ t tree h.
     let d0 = g.D.BlockDev.state c.args.dev.now in
     let d1 = g.D.BlockDev.state c.barrier.new.self in
     let d2 = g.D.BlockDev.state c.put_all.new.dev in
-    let d3 = g.D.BlockDev.state c.empty.new.dev in
+    let d3 = g.D.BlockDev.state c.move_tail.new.dev in
     let log = c.args.stopped.now.log in
-    finish c.empty.result (IsReading log) (λ r. Told d2 (AreHomesPut log.sectors r)) (λ r. Told d3 (Stands log.sectors (emptied r))) c.empty.ensures.stands
+    finish c.move_tail.result (IsReading log) (λ r. Told d2 (AreHomesPut log.sectors r)) (λ r. Told d3 (Stands log.sectors (emptied r))) c.move_tail.ensures.stands
     (λ stands. steps.emptied_left c.replay_laws.ensures d0 d1 t tree c.args.stopped.now h c.requires.superblock c.in_ok-barrier.ensures.passed d2 d3 c.in_ok-put_all.ensures.ran stands)

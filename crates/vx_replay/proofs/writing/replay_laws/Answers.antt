@@ -1,3 +1,4 @@
+use Rattle.std.specs.Prelude.{false}
 use Rattle.vx_replay.proofs.writing.replay_laws.Goals as goal
 
 pub returns : goal.returns
@@ -10,6 +11,13 @@ returns c = record {
   fewer = c.image_laws.ensures.fewer;
   homes = c.home_laws.ensures.stage;
   homes_broken = c.home_laws.ensures.broken;
+  either = c.image_laws.ensures.either;
+  home_stable = c.home_laws.ensures.stable;
+  all_home = c.home_laws.ensures.home;
+  emptied = c.head_laws.ensures.emptied;
+  head_written = c.head_laws.ensures.written;
+  head_failed = c.head_laws.ensures.failed;
+  head_passed = c.head_laws.ensures.passed;
   values = c.value_laws.ensures.stage;
   values_broken = c.value_laws.ensures.broken;
   supers = c.super_spelling.ensures.unique;
@@ -17,5 +25,5 @@ returns c = record {
   records = c.log_spelling.ensures.records;
   volume = c.super_places.ensures.volume;
   past_log = c.super_places.ensures.past_log;
-  alike = c.reads_alike.ensures;
+  alike = λ v a b t is_volume same h. record { sound = c.sound_alike.ensures false v a b is_volume same h.sound; reads = c.reads_alike.ensures v a b t is_volume same h.reads };
 }
