@@ -1,2 +1,3 @@
 pub mod Ending
 mod Numbers
+pub mod Taking

@@ -15,6 +15,7 @@ status_of BadWords = 1
 status_of (DeviceTooSmall have want) = 2
 status_of (Refused (no.BadSuper field)) = 2
 status_of (Refused (no.BadLog sector)) = 2
+status_of (Refused (no.BadMeta sector)) = 2
 status_of (Refused no.WriteFault) = 4
 status_of (Refused no.NoMemory) = 6
 status_of (Refused no.ReadFault) = 8
@@ -32,6 +33,7 @@ name_of BadWords = codes "BadWords"
 name_of (DeviceTooSmall have want) = codes "DeviceTooSmall"
 name_of (Refused (no.BadSuper field)) = codes "BadSuper"
 name_of (Refused (no.BadLog sector)) = codes "BadLog"
+name_of (Refused (no.BadMeta sector)) = codes "BadMeta"
 name_of (Refused no.WriteFault) = codes "WriteFault"
 name_of (Refused no.NoMemory) = codes "NoMemory"
 name_of (Refused no.ReadFault) = codes "ReadFault"
@@ -40,6 +42,7 @@ abbrev pub fields_of : End → List ℕ
 fields_of (DeviceTooSmall have want) = have ∷ want ∷ []
 fields_of (Refused (no.BadSuper field)) = field ∷ []
 fields_of (Refused (no.BadLog sector)) = sector ∷ []
+fields_of (Refused (no.BadMeta sector)) = sector ∷ []
 fields_of _ = []
 
 abbrev pub refused_line : End → List ℕ

@@ -28,7 +28,9 @@ impl End {
             End::BadWords => 1,
             End::DeviceTooSmall { .. } => 2,
             End::Refused(
-                ReplayRefusal::BadSuper { field: _ } | ReplayRefusal::BadLog { sector: _ },
+                ReplayRefusal::BadSuper { field: _ }
+                | ReplayRefusal::BadLog { sector: _ }
+                | ReplayRefusal::BadMeta { sector: _ },
             ) => { 2 }
             End::Refused(ReplayRefusal::WriteFault) => 4,
             End::Refused(ReplayRefusal::NoMemory) => 6,

@@ -7,6 +7,7 @@ mod top;
 mod words;
 
 pub use top::{AdminDone, admin};
+pub use words::image_of;
 
 #[cfg(test)]
 mod tests;

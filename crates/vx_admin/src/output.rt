@@ -115,6 +115,9 @@ fn put_fields<K: Sink>(out: &mut K, buffer: &mut TextBuffer, end: &End) -> Resul
         End::Refused(ReplayRefusal::BadLog { sector }) => {
             put_words(out, buffer, &[Word::Number(*sector)])
         }
+        End::Refused(ReplayRefusal::BadMeta { sector }) => {
+            put_words(out, buffer, &[Word::Number(*sector)])
+        }
         _ => Ok(()),
     }
 }
@@ -129,6 +132,7 @@ fn name(end: &End) -> &'static [u8]
         End::DeviceTooSmall { .. } => b"DeviceTooSmall",
         End::Refused(ReplayRefusal::BadSuper { field: _ }) => b"BadSuper",
         End::Refused(ReplayRefusal::BadLog { sector: _ }) => b"BadLog",
+        End::Refused(ReplayRefusal::BadMeta { sector: _ }) => b"BadMeta",
         End::Refused(ReplayRefusal::ReadFault) => b"ReadFault",
         End::Refused(ReplayRefusal::WriteFault) => b"WriteFault",
         End::Refused(ReplayRefusal::NoMemory) => b"NoMemory",

@@ -1,7 +1,7 @@
 //! Checks and formats of images in memory.
 ghost use Rattle.std.specs.Prelude.{◌≡◌, IfOk, length};
 
-use crate::{AdminDone, admin};
+use crate::{AdminDone, admin, image_of};
 use std::alloc::{AllocError, Global};
 use std::test::Fail;
 use vx_base::{MemSink, NumList, SectorNo};
@@ -9,9 +9,13 @@ use vx_dev::{BlockDev, Image, MemDisk};
 use vx_layout::Super;
 use vx_log::{Batch, Log};
 use vx_mkfs::make;
+use vx_replay::{CheckRefusal, Checked, check as image_check};
 
 /// The operations of a format, and of one transaction that changes one sector.
 const STOPPED: u64 = 75;
+
+/// The sector of inodes 4 and 5, which are free in a new file system, so that it holds zeros.
+const FREE_INODES: u32 = 1032;
 
 /// The superblock of a new file system while it is mounted.
 const MOUNTED: Super = Super {
@@ -34,15 +38,27 @@ fn disk(alloc: Global, fail_writes: &[u64], fail_reads: &[u64]) -> Result<MemDis
     )
 }
 
-/// A new file system with one transaction, which is not unmounted.
+/// A new file system with one transaction, which leaves it as it was, and which is not unmounted.
 fn stopped(alloc: Global, fail_writes: &[u64], fail_reads: &[u64]) -> Result<MemDisk, Fail> {
     let mut disk = disk(alloc, fail_writes, fail_reads)?;
     make(&mut disk, &MOUNTED)?;
+    put_transaction(alloc, &mut disk, &[0; 512])?;
+    Ok(disk)
+}
+
+/// Puts a transaction into the log of a new file system, which gives the sector of free inodes this content.
+fn put_transaction(alloc: Global, disk: &mut MemDisk, content: &[u8; 512]) -> Result<(), Fail>
+    requires { length disk.old.start ≡ 9220 }
+{
     let mut log = Log::fresh(alloc, MOUNTED.log_blocks)?;
     let mut batch = Batch::new(alloc)?;
-    batch.set(SectorNo::new(1031), &[7; 512]);
-    log.commit(&mut disk, batch)?;
-    Ok(disk)
+    batch.set(SectorNo::new(FREE_INODES), content);
+    log.close_batch(batch);
+    let _out = log.put_next(disk)?;
+    disk.barrier()?;
+    log.open_gate(disk)?;
+    disk.barrier()?;
+    Ok(())
 }
 
 /// What a check printed, with its status and its device.
@@ -87,6 +103,49 @@ fn no_head_sector(rt: HostRuntime) -> Result<(), Fail> {
     disk.write(2, &[0; 512])?;
     let seen = check(rt.alloc(), &["fsck", "disk.img"], 64, disk)?;
     assert!(rt; ended(&seen, 2, b"refused 2 BadLog 2\n", 71));
+    Ok(())
+}
+
+/// The image check by itself, which finds a stopped image not clean where it is strict.
+#[test]
+fn strict_and_not(rt: HostRuntime) -> Result<(), Fail> {
+    let mut disk = stopped(rt.alloc(), &[], &[])?;
+    let passed = image_check(rt.alloc(), &mut disk, false);
+    assert!(rt;
+        matches!(
+            passed,
+            Ok(Checked {
+                tail: 0,
+                head: 2,
+                ..
+            })
+        )
+    );
+    let refused = image_check(rt.alloc(), &mut disk, true);
+    assert!(rt; matches!(refused, Err(CheckRefusal::NotClean { tail: 0, head: 2 })));
+    assert_eq!(rt; disk.ops(), STOPPED);
+    Ok(())
+}
+
+#[test]
+fn bad_metadata(rt: HostRuntime) -> Result<(), Fail> {
+    let mut bent = [0; 512];
+    bent[511] = 1;
+    let mut disk = disk(rt.alloc(), &[], &[])?;
+    make(&mut disk, &MOUNTED)?;
+    disk.write(u64::from(FREE_INODES), &bent)?;
+    let seen = check(rt.alloc(), &["fsck", "disk.img"], 64, disk)?;
+    assert!(rt; ended(&seen, 2, b"refused 2 BadMeta 1032\n", 71));
+    Ok(())
+}
+
+#[test]
+fn bad_metadata_in_the_log(rt: HostRuntime) -> Result<(), Fail> {
+    let mut disk = disk(rt.alloc(), &[], &[])?;
+    make(&mut disk, &MOUNTED)?;
+    put_transaction(rt.alloc(), &mut disk, &[7; 512])?;
+    let seen = check(rt.alloc(), &["fsck", "disk.img"], 64, disk)?;
+    assert!(rt; ended(&seen, 2, b"refused 2 BadMeta 1032\n", STOPPED));
     Ok(())
 }
 
@@ -183,6 +242,27 @@ fn zeros(rt: HostRuntime) -> Result<(), Fail> {
             ops: 136,
         },
         Asked {
+            words: &["mkfs", "--units=2", "disk.img", "--log=256"],
+            sectors: 16_900,
+            status: 0,
+            line: b"made 2 256\n",
+            ops: 136,
+        },
+        Asked {
+            words: &["mkfs", "--", "disk.img"],
+            sectors: 9_219,
+            status: 2,
+            line: b"refused 2 DeviceTooSmall 9219 9220\n",
+            ops: 0,
+        },
+        Asked {
+            words: &["mkfs", "disk.img", "--units", "1", "--units", "1"],
+            sectors: 8,
+            status: 1,
+            line: b"refused 1 BadWords\n",
+            ops: 0,
+        },
+        Asked {
             words: &["fsck"],
             sectors: 8,
             status: 1,
@@ -218,5 +298,15 @@ fn zeros(rt: HostRuntime) -> Result<(), Fail> {
         let seen = check(rt.alloc(), row.words, 64, disk)?;
         assert!(rt; ended(&seen, row.status, row.line, row.ops));
     }
+    Ok(())
+}
+
+#[test]
+fn words_with_an_image(rt: HostRuntime) -> Result<(), Fail> {
+    let mut words = Vec::new(rt.alloc());
+    for word in ["mkfs", "--log", "256", "disk.img"] {
+        words.push(String::from_str(rt.alloc(), word)?)?;
+    }
+    assert_eq!(rt; image_of(rt.alloc(), &words)?, Some("disk.img"));
     Ok(())
 }

@@ -8,7 +8,7 @@ ghost use Rattle.vx_admin.specs.Ends.{EndsCheck, EndsFormat, Keeps, HasCause, Ha
 use crate::end::End;
 use crate::output::render;
 use crate::words::{Ask, asked};
-use std::alloc::Global;
+use std::alloc::{AllocError, Global};
 use vx_base::Sink;
 use vx_dev::{BlockDev, DevFault};
 use vx_layout::{Super, sectors_needed};
@@ -21,7 +21,7 @@ pub struct AdminDone<D> {
     pub dev: D,
 }
 
-/// Replays the log of a stopped image, where the words are `fsck IMAGE`, or writes a new file system, where they are `mkfs IMAGE` and
+/// Checks an image and replays its log, where the words are `fsck IMAGE`, or writes a new file system, where they are `mkfs IMAGE` and
 /// the sizes, and writes a line that says how it ended.
 ///
 /// The exit statuses and the lines are those of docs/OUTPUT.md. A status of 1, 2, 6 or 8 leaves the device's operations as they were.
@@ -47,14 +47,15 @@ pub fn admin<D: BlockDev, K: Sink>(
 fn ended<D: BlockDev>(alloc: Global, words: &[String], dev: &mut D) -> End
     ensures { HasEnded (map string_bytes words.now) (D.state dev.old) (D.state dev.new) result }
 {
-    match asked(words) {
-        None => End::BadWords,
-        Some(Ask::Fsck) => checked(alloc, dev),
-        Some(Ask::Mkfs(superblock)) => formatted(dev, superblock),
+    match asked(alloc, words) {
+        Ok(None) => End::BadWords,
+        Ok(Some(Ask::Fsck)) => checked(alloc, dev),
+        Ok(Some(Ask::Mkfs(superblock))) => formatted(dev, superblock),
+        Err(AllocError) => End::Refused(ReplayRefusal::NoMemory),
     }
 }
 
-/// Replays the log of a stopped image.
+/// Checks an image and replays its log.
 fn checked<D: BlockDev>(alloc: Global, dev: &mut D) -> End
     ensures ends { EndsCheck result }
     ensures kept { Keeps (D.state dev.old) (D.state dev.new) }

@@ -1,9 +1,13 @@
-//! The words of the command line.
-ghost use Rattle.std.specs.Prelude.{◌≡◌, ◌≤◌, IsTrue, IfSome, map, nat_le, get_or};
+//! The words of the command line, read by `clap`.
+ghost use Rattle.std.specs.Prelude.{◌≡◌, ◌≤◌, IsTrue, IfOk, IfSome, map, nat_le, get_or, option_map};
 ghost use Rattle.std.specs.List.{list_all};
 ghost use Rattle.std.specs.String.{string_bytes};
-ghost use Rattle.vx_admin.specs.Words.{is_digit, is_number, number_of, number_within, units_in, log_blocks_in, mkfs_of, with_one, with_two, sizes_asked, check_asked, asked_by, asked, IsAsk};
+ghost use Rattle.clap.specs.Words.{app_of, found_of, rows_of};
+ghost use Rattle.vx_admin.specs.Words.{command, is_digit, is_number, number_of, number_within, units_of, log_blocks_of, mkfs_of, fsck_of, asked_by, asked_of, taken, asked, image_of, IsAsk};
 
+use clap::error::ErrorKind;
+use clap::{Arg, ArgAction, ArgMatches, Command};
+use std::alloc::{AllocError, Global};
 use vx_layout::Super;
 
 /// The allocation units of a new file system, where nothing is said of them.
@@ -15,92 +19,105 @@ const LOG_BLOCKS: u32 = 512;
 /// What the words ask for.
 #[derive(Clone, Copy, Debug)]
 pub enum Ask {
-    /// The replay of a stopped image.
+    /// The check of an image, and the replay of its log.
     Fsck,
     /// A new file system with this superblock, of 1 to 64 allocation units and a log of 256 to 2,048 blocks, which is left clean.
     Mkfs(Super),
 }
 
-/// What the words ask for: `fsck IMAGE`, or `mkfs IMAGE` with `--units N` and `--log N` behind it, each once or not at all.
-pub fn asked(words: &[String]) -> Option<Ask>
-    ensures exact { result ≡ asked (map string_bytes words.now) }
+/// What the words ask for: `fsck IMAGE`, or `mkfs IMAGE` with `--units N` and `--log N`, each once or not at all (docs/OUTPUT.md).
+pub fn asked(alloc: Global, words: &[String]) -> Result<Option<Ask>, AllocError>
+    ensures exact { IfOk result (λ ask. ask ≡ asked (map string_bytes words.now)) }
+    ensures sizes { IfOk result (λ ask. IfSome ask IsAsk) }
+{
+    match taken(alloc, words) {
+        Ok(Some(matches)) => Ok(asked_of(
+            matches.get_str("verb"),
+            matches.get_str("units"),
+            matches.get_str("log"),
+        )),
+        Ok(None) => Ok(None),
+        Err(error) => Err(error),
+    }
+}
+
+/// The word that names the image, where the words have one of the forms that are asked for, with any verb and any values of the options.
+pub fn image_of<'a>(alloc: Global, words: &'a [String]) -> Result<Option<&'a str>, AllocError>
+    ensures { IfOk result (λ image. option_map (λ s. s.now) image ≡ image_of (map string_bytes words.now)) }
+{
+    match taken(alloc, words) {
+        Ok(Some(matches)) => Ok(matches.get_str("image")),
+        Ok(None) => Ok(None),
+        Err(error) => Err(error),
+    }
+}
+
+/// What the command finds in the words; nothing, where something is wrong with them.
+fn taken<'a>(alloc: Global, words: &'a [String]) -> Result<Option<ArgMatches<'a>>, AllocError>
+    ensures { IfOk result (λ found. option_map (λ matches. rows_of (found_of matches)) found ≡ taken (map string_bytes words.now)) }
+{
+    match command(alloc)?.try_get_matches_from(words) {
+        Ok(matches) => Ok(Some(matches)),
+        Err(error) => match error.kind() {
+            ErrorKind::OutOfMemory => Err(AllocError),
+            _ => Ok(None),
+        },
+    }
+}
+
+/// The command: a verb and an image, and two options that take a value once.
+fn command<'a>(alloc: Global) -> Result<Command<'a>, AllocError>
+    ensures { IfOk result (λ app. app_of app ≡ command) }
+{
+    let verb = Arg::new(alloc, "verb")
+        .required(true)
+        .action(ArgAction::Set);
+    let image = Arg::new(alloc, "image")
+        .required(true)
+        .action(ArgAction::Set);
+    let units = Arg::new(alloc, "units")
+        .long("units")
+        .action(ArgAction::Set);
+    let log = Arg::new(alloc, "log").long("log").action(ArgAction::Set);
+    Command::new(alloc, "vxadm")
+        .no_binary_name(true)
+        .arg(verb)?
+        .arg(image)?
+        .arg(units)?
+        .arg(log)
+}
+
+fn asked_of(verb: Option<&str>, units: Option<&str>, log: Option<&str>) -> Option<Ask>
+    ensures exact { result ≡ asked_of (option_map (λ s. s.now) verb.entry) (option_map (λ s. s.now) units.entry) (option_map (λ s. s.now) log.entry) }
     ensures sizes { IfSome result IsAsk }
 {
-    match words {
-        [verb, _, options @ ..] => asked_by(verb.as_bytes(), options),
-        _ => None,
+    match verb {
+        Some(verb) => asked_by(verb.as_bytes(), units, log),
+        None => None,
     }
 }
 
 #[tactic(auto, unfolding(crate::specs::Words::asked_by))]
-fn asked_by(verb: &[u8], options: &[String]) -> Option<Ask>
-    ensures exact { result ≡ asked_by verb.now (map string_bytes options.now) }
+fn asked_by(verb: &[u8], units: Option<&str>, log: Option<&str>) -> Option<Ask>
+    ensures exact { result ≡ asked_by verb.now (option_map (λ s. s.now) units.entry) (option_map (λ s. s.now) log.entry) }
     ensures sizes { IfSome result IsAsk }
 {
     if verb == b"fsck".as_slice() {
-        check_asked(options)
+        fsck(units, log)
     } else if verb == b"mkfs".as_slice() {
-        sizes_asked(options)
+        mkfs(units_of(units), log_blocks_of(log))
     } else {
         None
     }
 }
 
-fn check_asked(options: &[String]) -> Option<Ask>
-    ensures exact { result ≡ check_asked (map string_bytes options.now) }
+fn fsck(units: Option<&str>, log: Option<&str>) -> Option<Ask>
+    ensures exact { result ≡ fsck_of (option_map (λ s. s.now) units.entry) (option_map (λ s. s.now) log.entry) }
     ensures sizes { IfSome result IsAsk }
 {
-    match options {
-        [] => Some(Ask::Fsck),
+    match (units, log) {
+        (None, None) => Some(Ask::Fsck),
         _ => None,
-    }
-}
-
-#[tactic(auto, unfolding(crate::specs::Words::sizes_asked))]
-fn sizes_asked(options: &[String]) -> Option<Ask>
-    ensures exact { result ≡ sizes_asked (map string_bytes options.now) }
-    ensures sizes { IfSome result IsAsk }
-{
-    match options {
-        [] => mkfs(Some(UNITS), Some(LOG_BLOCKS)),
-        [name, word] => with_one(name.as_bytes(), word.as_bytes()),
-        [name, word, second_name, second_word] => with_two(
-            name.as_bytes(),
-            word.as_bytes(),
-            second_name.as_bytes(),
-            second_word.as_bytes(),
-        ),
-        _ => None,
-    }
-}
-
-/// One option, and the other has its default.
-#[tactic(auto, unfolding(crate::specs::Words::with_one))]
-fn with_one(name: &[u8], word: &[u8]) -> Option<Ask>
-    ensures exact { result ≡ with_one name.now word.now }
-    ensures sizes { IfSome result IsAsk }
-{
-    if name == b"--units".as_slice() {
-        mkfs(units_in(word), Some(LOG_BLOCKS))
-    } else if name == b"--log".as_slice() {
-        mkfs(Some(UNITS), log_blocks_in(word))
-    } else {
-        None
-    }
-}
-
-/// Both options, in either order.
-#[tactic(auto, unfolding(crate::specs::Words::with_two))]
-fn with_two(name: &[u8], word: &[u8], second_name: &[u8], second_word: &[u8]) -> Option<Ask>
-    ensures exact { result ≡ with_two name.now word.now second_name.now second_word.now }
-    ensures sizes { IfSome result IsAsk }
-{
-    if name == b"--units".as_slice() && second_name == b"--log".as_slice() {
-        mkfs(units_in(word), log_blocks_in(second_word))
-    } else if name == b"--log".as_slice() && second_name == b"--units".as_slice() {
-        mkfs(units_in(second_word), log_blocks_in(word))
-    } else {
-        None
     }
 }
 
@@ -122,18 +139,24 @@ fn mkfs(units: Option<u32>, log_blocks: Option<u32>) -> Option<Ask>
     }
 }
 
-fn units_in(word: &[u8]) -> Option<u32>
-    ensures exact { result ≡ units_in word.now }
+fn units_of(word: Option<&str>) -> Option<u32>
+    ensures exact { result ≡ units_of (option_map (λ s. s.now) word.entry) }
     ensures within { IfSome result (λ n. (1 ≤ n) × (n ≤ 64)) }
 {
-    number_within(1, 64, word)
+    match word {
+        Some(word) => number_within(1, 64, word.as_bytes()),
+        None => Some(UNITS),
+    }
 }
 
-fn log_blocks_in(word: &[u8]) -> Option<u32>
-    ensures exact { result ≡ log_blocks_in word.now }
+fn log_blocks_of(word: Option<&str>) -> Option<u32>
+    ensures exact { result ≡ log_blocks_of (option_map (λ s. s.now) word.entry) }
     ensures within { IfSome result (λ n. (256 ≤ n) × (n ≤ 2048)) }
 {
-    number_within(256, 2048, word)
+    match word {
+        Some(word) => number_within(256, 2048, word.as_bytes()),
+        None => Some(LOG_BLOCKS),
+    }
 }
 
 /// The number that a word spells, where it lies within the limits.

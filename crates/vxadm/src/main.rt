@@ -3,7 +3,7 @@
 
 use std::fs::File;
 use std::process::ExitCode;
-use vx_admin::{AdminDone, admin};
+use vx_admin::{AdminDone, admin, image_of};
 use vx_base::StdSink;
 use vx_filedev::FileDev;
 use vx_host::{
@@ -17,7 +17,7 @@ const CANNOT_OPEN: u8 = 9;
 
 const USAGE: &str = "usage: vxadm fsck IMAGE
        vxadm mkfs IMAGE [--units N] [--log N]
-Replays the log of a stopped image and leaves it clean, or makes a new file system in it. vxadm(1) has more.
+Checks an image, replays its log and leaves it clean, or makes a new file system in it. vxadm(1) has more.
 vxadm 0.1 of Vudkesh";
 
 fn main(rt: HostRuntime) -> ExitCode {
@@ -39,7 +39,10 @@ fn status(rt: &HostRuntime) -> u8 {
     if !line.has_image {
         return cannot_open(rt);
     }
-    match image(rt, &line) {
+    let Ok(named) = image_of(rt.alloc(), line.words.as_slice()) else {
+        return NO_MEMORY;
+    };
+    match image(rt, line.words.as_slice(), named) {
         Ok(dev) => administered(rt, &line, dev),
         Err(why) => {
             complain(rt, "vxadm", line.words.as_slice(), &why);
@@ -58,11 +61,18 @@ fn administered(rt: &HostRuntime, line: &CommandLine, dev: FileDev<File>) -> u8 
     status
 }
 
-/// The image that the second word names. It is never made or lengthened.
-fn image(rt: &HostRuntime, line: &CommandLine) -> Result<FileDev<File>, ImageError> {
-    match line.words.as_slice() {
-        [_, path, ..] => open_image(rt, path.as_str()),
-        _ => open_image(rt, ""),
+/// The image that the words name, or the second word where they have no good form. It is never made or lengthened.
+fn image(
+    rt: &HostRuntime,
+    words: &[String],
+    named: Option<&str>,
+) -> Result<FileDev<File>, ImageError> {
+    match named {
+        Some(path) => open_image(rt, path),
+        None => match words {
+            [_, path, ..] => open_image(rt, path.as_str()),
+            _ => open_image(rt, ""),
+        },
     }
 }
 
