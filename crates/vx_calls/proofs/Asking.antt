@@ -80,7 +80,7 @@ module _ (o : World) (d : Device) (m : Mount) (at : IsAt o d m) (c : Call) where
     left = at.left;
     new = present o m.kernel;
     meta = at.meta;
-    laid_out = at.run.mounted_now.laid_out;
+    laid_out = at.run.mounted_now.well_formed.laid_out;
     reply_is = reply_is;
     state_is = state_is;
     touched = same_touched (present o m.kernel) m.touched;

@@ -59,7 +59,7 @@ module _ (o : World) (d : Device) (m : Mount) (c : Call) (reply : Reply) (r : Ha
         → IsBatch (volume_of m.kernel.sizes) (parsed_of (present o m.kernel)) (parsed_of (called_state o m.kernel session c reply)) batch
     is_batch edits batch right whole = subst (λ (s : State). IsBatch (volume_of m.kernel.sizes) (parsed_of (present o m.kernel)) (parsed_of s) batch) (sym (r.state_is session))
         (subst (λ (v : Volume). IsBatch v (parsed_of (present o m.kernel)) (parsed_of r.new) batch) volume_is
-        (edits.batch (present o m.kernel) r.new m.touched batch r.run.mounted_now.laid_out r.laid_out r.touched right whole))
+        (edits.batch (present o m.kernel) r.new m.touched batch r.run.mounted_now.well_formed.laid_out r.laid_out r.touched right whole))
       where
         volume_is : volume r.new.layout ≡ volume_of m.kernel.sizes
         volume_is = r.touched.same_volume ∙ (λ i. record { block = 1024; first = 2 + r.run.mounted_now.log_blocks i; units = r.run.mounted_now.units i })

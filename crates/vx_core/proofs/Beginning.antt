@@ -1,8 +1,9 @@
 -- A turn that begins a session's line.
-use Rattle.std.proofs.Common.{◌≡◌, ℕ, ◌+◌, ◌<◌, ◌&&◌, not, set, List, [], ◌∷◌, ◌++◌, length, length-append, Bool, true, false, Option, Some, None, refl, sym, ap, subst, ◌∙◌, arith, inl, inr}
-use Rattle.std.specs.Prelude.{IsSome, IfSome, slice_get}
+use Rattle.std.proofs.Common.{◌≡◌, ℕ, ◌+◌, ◌<◌, ◌&&◌, ◌||◌, not, set, List, [], ◌∷◌, ◌++◌, length, length-append, Bool, true, false, Option, Some, None, refl, sym, ap, subst, ◌∙◌, append_assoc, arith, inl, inr}
+use Rattle.std.specs.Prelude.{All, IsSome, IfSome, slice_get}
 use Rattle.std.proofs.lemmas.Bool.{cases_eq}
 use Rattle.std.proofs.lemmas.List.{length-set}
+use Rattle.std.proofs.lemmas.List.Elements.{All-cons, All-nil}
 use Rattle.std.proofs.lemmas.Option.{slice_get_within}
 use Rattle.std.specs.Option.{option_and_then}
 use Rattle.vx_base.specs.declared.call.Call.{Call}
@@ -10,25 +11,29 @@ use Rattle.vx_base.specs.declared.call.Call.TheVariants as call
 use Rattle.vx_base.specs.declared.event.Event.{Event}
 use Rattle.vx_base.specs.declared.event.Event.TheVariants as event
 use Rattle.vx_base.specs.declared.mode.Logging.{Logging}
+use Rattle.vx_base.specs.declared.mode.Logging.TheVariants as logging
 use Rattle.vx_base.specs.declared.reply.Reply.{Reply}
 use Rattle.vx_base.specs.Lines.{lines_of, line_after}
 use Rattle.vx_model.specs.Allowed.{call_of, call_at, has_front, is_refusal}
 use Rattle.vx_model.specs.Legal.{World, in_use, after_all}
 use Rattle.vx_mount.specs.GrowthLaws.{GrowthLaws}
-use Rattle.vx_mount.specs.Sessions.{begun, standing, ready}
+use Rattle.vx_mount.specs.Faults.{EventTellsFault}
+use Rattle.vx_mount.specs.Pieces.{is_quiet}
+use Rattle.vx_mount.specs.Sessions.{begun, answered, standing, ready}
 use Rattle.vx_core.specs.declared.session.Session.{Session}
 use Rattle.vx_core.specs.declared.session.UnderWay.{UnderWay}
 use Rattle.vx_core.specs.Facts.{Facts, ends_run, HasAnswered}
 use Rattle.vx_core.specs.Lines.{script_lines}
 use Rattle.vx_core.specs.Mounts.{MountView, IsStage, HasDone, HasMadeRoom, MayBegin, MayAnswer, MayStop, IsBuilt, noted}
-use Rattle.vx_core.specs.Tracks.{session_at, under_way_at, calls_under_way, IsUnderWay, WaitsForFront, WaitForFronts, IsRunning}
+use Rattle.vx_core.specs.Tracks.{session_at, under_way_at, calls_under_way, IsUnderWay, Tracks, WaitsForFront, WaitForFronts, IsRunning}
 use Rattle.vx_core.proofs.ScriptLines.{script_do, script_other, script_ret}
 use Rattle.vx_core.proofs.Pushing.{at_same, at_other}
 use Rattle.vx_core.proofs.Standings.{idle, ret_allowed}
 use Rattle.vx_core.proofs.Courses.{fronts_more, fronts_set, front_here}
 use Rattle.vx_core.proofs.Goings.{Going, going_begins, going_later, going_do, going_ret, going_stop, going_turn, stopping_turn, stopping_phase}
 use Rattle.vx_core.proofs.Deciding.{run_goes_on, same_line}
-use Rattle.vx_core.proofs.Ending.{TurnDone, facts_later, goes_later, staged_turn, tells_refusal, line_limit}
+use Rattle.vx_core.proofs.Turning.{so_many, none_left}
+use Rattle.vx_core.proofs.Ending.{TurnDone, Tells, noted_stage, facts_later, goes_later, staged_turn, tells_refusal, line_limit}
 
 both_true : (a b : Bool) → (a && not b) ≡ true → (a ≡ true) × (b ≡ false)
 both_true true true e = absurd (cc)
@@ -39,6 +44,20 @@ not_both : (a b : Bool) → (a && not b) ≡ false → b ≡ false → a ≡ fal
 not_both true true e f = absurd (cc)
 not_both true false e f = absurd (cc)
 not_both false b e f = refl
+
+alone : (b : Bool) → (b || false) ≡ true → b ≡ true
+alone true e = refl
+alone false e = e
+
+-- a call that waits for no commit need not be committed
+quiet_no_front : (mode : Logging) (c : Call) → is_quiet mode c ≡ true → has_front mode c ≡ false
+quiet_no_front logging.DelayLog (call.Rename old new) e = absurd (cc)
+quiet_no_front logging.DelayLog (call.Fsync handle) e = absurd (cc)
+quiet_no_front logging.DelayLog call.Sync e = absurd (cc)
+quiet_no_front logging.DelayLog call.Tick e = absurd (cc)
+quiet_no_front logging.DelayLog _ e = refl
+quiet_no_front logging.Log c e = absurd (cc)
+quiet_no_front logging.TmpLog c e = absurd (cc)
 
 module _ (laws : GrowthLaws) (built : Call → Type 0) (o : World) (was : Type 0) (v : MountView) (lists : List (List Call)) (sessions : List Session) (f : Facts built o was v lists sessions false) (s n : ℕ)
     (inside : s < length sessions) (is : session_at sessions s ≡ record { answered = n; under_way = None }) (stands : standing (script_lines lists v.history) v.history s ≡ ready) where
@@ -79,7 +98,7 @@ module _ (laws : GrowthLaws) (built : Call → Type 0) (o : World) (was : Type 0
 
     -- the mount made room first
     pub room_turn : (kept : Type 0) (later : MountView) → kept → HasMadeRoom v later → IsStage v later → later.leaving ≡ false → TurnDone built o kept v lists s later lists sessions false
-    room_turn kept later keeps made stage free = staged_turn laws built o was v lists sessions f s stands begin_runs kept later keeps made.history made.works stage free
+    room_turn kept later keeps made stage free = staged_turn laws built o was v lists sessions f s stands begin_runs kept later keeps made.history made.works stage free made.still
 
   -- ---- the call was done
 
@@ -134,6 +153,23 @@ module _ (laws : GrowthLaws) (built : Call → Type 0) (o : World) (was : Type 0
         (subst (λ h. WaitForFronts v.logging h sessions) (sym d.history) (fronts_more laws v.logging v.history (event.Do later.count s (n + 1) d.done answer ∷ []) sessions f.fronts))
 
     -- it waits to be committed
+    one_tells : (e : Event) → EventTellsFault v.disabled later.disabled later.write_faults e → All (EventTellsFault v.disabled later.disabled later.write_faults) (e ∷ [])
+    one_tells e told = All-cons (EventTellsFault v.disabled later.disabled later.write_faults) e [] told (All-nil (EventTellsFault v.disabled later.disabled later.write_faults))
+
+    tells_waiting : commits ≡ true → is_refusal answer ≡ false → Tells v s later
+    tells_waiting front fine = record {
+      events = event.Do later.count s (n + 1) d.done answer ∷ [];
+      is = d.history;
+      tells = one_tells (event.Do later.count s (n + 1) d.done answer) d.tells;
+      answers = λ some. absurd (let refused : is_refusal answer ≡ true = tells_refusal v.disabled later.disabled later.write_faults answer d.tells some in cc);
+      in_memory = λ _ same. d.quiet same;
+      quiet = λ some. absurd (
+          let waits : has_front v.logging d.done ≡ true = sym d.commits_is ∙ front in
+          let none : has_front v.logging d.done ≡ false = quiet_no_front v.logging d.done (alone (is_quiet v.logging d.done) some) in
+          cc
+          );
+    }
+
     pub waits_turn : (kept : Type 0) → kept → (commits && not (is_refusal answer)) ≡ true → TurnDone built o kept v lists s later left with_call false
     waits_turn kept keeps waits =
         let w = both_true commits (is_refusal answer) waits in
@@ -147,7 +183,7 @@ module _ (laws : GrowthLaws) (built : Call → Type 0) (o : World) (was : Type 0
               (fronts_set later.logging later.history sessions s (record { answered = n; under_way = Some call_done }) inside here longer_fronts) (inl g.running)
               (length-set sessions s (record { answered = n; under_way = Some call_done }) ∙ f.counts ∙ sym left_long) left_long free;
           goes = goes_later laws built o was v lists sessions f s kept later left with_call false keeps done_script stands
-              (going_turn laws o lines s v.history v.count with_call later.history later.count g stands (λ same _. absurd (grown_longer same))) stage.few;
+              (going_turn laws o lines s v.history v.count with_call later.history later.count g (λ same _. absurd (grown_longer same))) stage (tells_waiting w.0 w.1);
         }
 
     -- it is answered at once
@@ -189,6 +225,43 @@ module _ (laws : GrowthLaws) (built : Call → Type 0) (o : World) (was : Type 0
         let e : length h ≡ length v.history = ap length same in
         absurd (omega arith)
 
+    with_answer_at : session_at with_answer s ≡ record { answered = n + 1; under_way = None }
+    with_answer_at = at_same with_call s (record { answered = n + 1; under_way = None }) with_call_inside
+
+    answered_before : answered s v.history ≡ n
+    answered_before = f.tracks.answered_is s ∙ ap (λ (z : Session). z.answered) is
+
+    tells_answered_done : Tracks lines (after_all o (later.history ++ event.Ret later.count place answer ∷ [])) (later.history ++ event.Ret later.count place answer ∷ []) with_answer → Tells v s (noted later (event.Ret later.count place answer))
+    tells_answered_done t =
+        let x = noted later (event.Ret later.count place answer) in
+        let here = event.Do later.count s (n + 1) d.done answer in
+        let ret = event.Ret later.count place answer in
+        record {
+          events = here ∷ ret ∷ [];
+          is = ap (λ (k : List Event). k ++ ret ∷ []) d.history ∙ append_assoc v.history (here ∷ []) (ret ∷ []);
+          tells = All-cons (EventTellsFault v.disabled later.disabled later.write_faults) here (ret ∷ []) d.tells (one_tells ret d.tells);
+          answers = λ _. (so_many lines (after_all o x.history) x.history with_answer t s (n + 1) with_answer_at ∙ ap (λ k. k + 1) (sym answered_before), none_left lines (after_all o x.history) x.history with_answer t s (n + 1) with_answer_at);
+          in_memory = λ _ same. d.quiet same;
+          quiet = λ _. none_left lines (after_all o x.history) x.history with_answer t s (n + 1) with_answer_at;
+        }
+
+    tells_stopped : Tracks lines (after_all o ((later.history ++ event.Ret later.count place answer ∷ []) ++ event.Stopped later.count ∷ [])) ((later.history ++ event.Ret later.count place answer ∷ []) ++ event.Stopped later.count ∷ []) with_answer
+        → Tells v s (noted (noted later (event.Ret later.count place answer)) (event.Stopped later.count))
+    tells_stopped t =
+        let x = noted (noted later (event.Ret later.count place answer)) (event.Stopped later.count) in
+        let here = event.Do later.count s (n + 1) d.done answer in
+        let ret = event.Ret later.count place answer in
+        let end = event.Stopped later.count in
+        record {
+          events = here ∷ ret ∷ end ∷ [];
+          is = ap (λ (k : List Event). (k ++ ret ∷ []) ++ end ∷ []) d.history ∙ ap (λ (k : List Event). k ++ end ∷ []) (append_assoc v.history (here ∷ []) (ret ∷ [])) ∙ append_assoc v.history (here ∷ ret ∷ []) (end ∷ []);
+          tells = All-cons (EventTellsFault v.disabled later.disabled later.write_faults) here (ret ∷ end ∷ []) d.tells
+              (All-cons (EventTellsFault v.disabled later.disabled later.write_faults) ret (end ∷ []) d.tells (one_tells end tt));
+          answers = λ _. (so_many lines (after_all o x.history) x.history with_answer t s (n + 1) with_answer_at ∙ ap (λ k. k + 1) (sym answered_before), none_left lines (after_all o x.history) x.history with_answer t s (n + 1) with_answer_at);
+          in_memory = λ _ same. d.quiet same;
+          quiet = λ _. none_left lines (after_all o x.history) x.history with_answer t s (n + 1) with_answer_at;
+        }
+
     pub answered_done_turn : (kept : Type 0) (last : MountView) (now : List Session) → kept → ends_run d.done answer ≡ false → HasAnswered later last with_call now s n call_done answer
         → TurnDone built o kept v lists s last left now false
     answered_done_turn kept last now keeps goes a =
@@ -202,7 +275,9 @@ module _ (laws : GrowthLaws) (built : Call → Type 0) (o : World) (was : Type 0
         record {
           facts = facts_later laws built o was v lists sessions f s kept x left with_answer false keeps same g.tracks fronts (inl g.running) with_answer_long left_long free;
           goes = goes_later laws built o was v lists sessions f s kept x left with_answer false keeps same stands
-              (going_turn laws o lines s v.history v.count with_answer x.history later.count g stands (λ same_h _. absurd (answer_longer x.history refl same_h))) stage.few;
+              (going_turn laws o lines s v.history v.count with_answer x.history later.count g (λ same_h _. absurd (answer_longer x.history refl same_h)))
+              (noted_stage v later (event.Ret later.count place answer) stage)
+              (tells_answered_done g.tracks);
         }))
 
     -- the answer of a Stop, and the end of the run
@@ -227,7 +302,9 @@ module _ (laws : GrowthLaws) (built : Call → Type 0) (o : World) (was : Type 0
         record {
           facts = facts_later laws built o was v lists sessions f s kept x left with_answer true keeps same g.tracks fronts g.stopped with_answer_long left_long free;
           goes = goes_later laws built o was v lists sessions f s kept x left with_answer true keeps same stands
-              (stopping_turn laws o lines s v.history v.count with_answer x.history later.count g stands (λ same_h _. absurd (stop_longer same_h))) stage.few;
+              (stopping_turn laws o lines s v.history v.count with_answer x.history later.count g (λ same_h _. absurd (stop_longer same_h)))
+              (noted_stage v (noted later (event.Ret later.count place answer)) (event.Stopped later.count) (noted_stage v later (event.Ret later.count place answer) stage))
+              (tells_stopped g.tracks);
         }))
       where
         stop_longer : (later.history ++ event.Ret later.count place answer ∷ []) ++ event.Stopped later.count ∷ [] ≡ v.history → ⊥

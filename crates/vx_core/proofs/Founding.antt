@@ -1,25 +1,24 @@
 -- Where a core begins.
-use Rattle.std.proofs.Common.{◌≡◌, ℕ, zero, suc, ◌+◌, ◌-◌, ◌*◌, ◌<◌, ◌≤◌, List, [], ◌∷◌, ◌++◌, length, map, drop, get_or, true, false, Option, Some, None, refl, sym, ap, subst, ◌∙◌, arith, inl, inr}
-use Rattle.std.specs.Prelude.{All, slice_get, slice_index_or}
+use Rattle.std.proofs.Common.{◌≡◌, ℕ, zero, suc, ◌+◌, ◌-◌, ◌*◌, ◌<◌, ◌≤◌, List, [], length, get_or, false, Some, None, refl, sym, ap, subst, ◌∙◌, arith, inl, inr}
+use Rattle.std.specs.Prelude.{All, slice_index_or}
 use Rattle.std.specs.FinMap as finite
 use Rattle.std.proofs.lemmas.Bool.{cases_lt}
 use Rattle.std.proofs.lemmas.List.{ext_get_or, get_or_past}
 use Rattle.std.specs.Ordering.{nat_cmp}
 use Rattle.vx_base.specs.declared.call.Call.{Call}
 use Rattle.vx_base.specs.declared.event.Event.{Event}
-use Rattle.vx_base.specs.Lines.{lines_of, line_after}
-use Rattle.vx_model.specs.Legal.{World, Waiting, after_all, in_use}
-use Rattle.vx_mount.specs.Cores.{Opening}
+use Rattle.vx_base.specs.Lines.{lines_of}
+use Rattle.vx_model.specs.Legal.{World, Waiting, after_all}
 use Rattle.vx_mount.specs.Sessions.{begun, answered, is_stopped}
 use Rattle.vx_mount.specs.Pieces.{is_stopping}
 use Rattle.vx_mount.specs.Runs.{calls_begun}
 use Rattle.vx_core.specs.declared.session.Session.{Session}
-use Rattle.vx_core.specs.Facts.{IsScript, Facts, IsSound, IsKept, IsBegun, IsNew}
+use Rattle.vx_core.specs.Facts.{IsScript, Facts, IsBegun, IsNew}
 use Rattle.vx_core.specs.Faults.{TellsNoFault, AreInOrder, TellsFaults, TellsInOrder}
 use Rattle.vx_core.specs.Lines.{lines_of_session, script_lines}
 use Rattle.vx_core.specs.Mounts.{MountView}
 use Rattle.vx_core.specs.Rooms.{HasRoom}
-use Rattle.vx_core.specs.Tracks.{no_session, session_at, under_way_at, calls_under_way, IsAnyUnderWay, Tracks, WaitsForFront, WaitForFronts, IsRunning}
+use Rattle.vx_core.specs.Tracks.{no_session, session_at, calls_under_way, IsAnyUnderWay, Tracks, WaitsForFront, IsRunning}
 use Rattle.vx_core.specs.Works.{sum_below, left_of, work_of, line_count}
 use Rattle.vx_core.proofs.ScriptLines.{length_script, script_at, lines_of_get_or}
 use Rattle.vx_core.proofs.Rooming.{has_room}

@@ -7,15 +7,14 @@ use Rattle.vx_base.specs.declared.reply.Reply.{Reply}
 use Rattle.vx_base.specs.Lines.{line_after}
 use Rattle.vx_model.specs.Legal.{World, stopping, after, after_all}
 use Rattle.vx_mount.specs.GrowthLaws.{GrowthLaws}
-use Rattle.vx_mount.specs.Pieces.{may_rest, is_stopping, IsTurn}
-use Rattle.vx_mount.specs.Sessions.{standing, ready}
+use Rattle.vx_mount.specs.Pieces.{may_rest, is_stopping}
 use Rattle.vx_core.specs.declared.session.Session.{Session}
 use Rattle.vx_core.specs.declared.session.UnderWay.{UnderWay}
 use Rattle.vx_core.specs.Facts.{ends_run}
 use Rattle.vx_core.specs.Tracks.{session_at, IsUnderWay, Tracks, IsRunning, IsStopped}
 use Rattle.vx_core.proofs.Pushing.{tracks_other, tracks_do, tracks_ret, under_way_is}
 use Rattle.vx_core.proofs.Courses.{running_do, running_release, running_ret, stopping_ret, stopped_by, stopped_settled}
-use Rattle.vx_core.proofs.Turning.{TurnSoFar, turn_begins, turn_later, turn_more, turn_ends, own_do, own_ret}
+use Rattle.vx_core.proofs.Turning.{TurnSoFar, TurnEnds, turn_begins, turn_later, turn_more, turn_ends, own_do, own_ret}
 
 pub after_push : (w : World) (h : List Event) (e : Event) → after_all w (h ++ e ∷ []) ≡ after (after_all w h) e
 after_push w [] e = refl
@@ -107,8 +106,8 @@ module _ (laws : GrowthLaws) (o : World) (lines : List (List Call)) (s : ℕ) (f
           }
 
     -- the whole turn
-    pub going_turn : standing lines first s ≡ ready → (h ≡ first → count ≡ begin → may_rest lines first s ≡ true) → IsTurn lines s first begin h count
-    going_turn stands rests = turn_ends lines s first begin h count g.so_far stands g.running.settled rests
+    pub going_turn : (h ≡ first → count ≡ begin → may_rest lines first s ≡ true) → TurnEnds lines s first begin h count
+    going_turn rests = turn_ends lines s first begin h count g.so_far g.running.settled rests
 
-  pub stopping_turn : (sessions : List Session) (h : List Event) (count : ℕ) → Stopping o lines s first begin sessions h count → standing lines first s ≡ ready → (h ≡ first → count ≡ begin → may_rest lines first s ≡ true) → IsTurn lines s first begin h count
-  stopping_turn sessions h count g stands rests = turn_ends lines s first begin h count g.so_far stands g.settled rests
+  pub stopping_turn : (sessions : List Session) (h : List Event) (count : ℕ) → Stopping o lines s first begin sessions h count → (h ≡ first → count ≡ begin → may_rest lines first s ≡ true) → TurnEnds lines s first begin h count
+  stopping_turn sessions h count g rests = turn_ends lines s first begin h count g.so_far g.settled rests

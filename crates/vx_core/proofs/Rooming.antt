@@ -1,7 +1,6 @@
 -- The history has room for what is to come.
-use Rattle.std.proofs.Common.{◌≡◌, ℕ, ◌+◌, ◌-◌, ◌<◌, ◌≤◌, set, List, [], ◌∷◌, ◌++◌, ◌∙◌, length, length-append, true, false, Bool, Some, None, refl, sym, ap, subst, arith, if◌then◌else◌}
+use Rattle.std.proofs.Common.{◌≡◌, ℕ, ◌+◌, ◌-◌, ◌<◌, ◌≤◌, set, List, [], ◌∷◌, ◌++◌, ◌∙◌, length, length-append, true, false, Bool, Some, None, sym, ap, subst, arith, if◌then◌else◌}
 use Rattle.vx_base.specs.declared.call.Call.{Call}
-use Rattle.vx_base.specs.declared.event.Event.{Event}
 use Rattle.vx_base.specs.Lines.{lines_of}
 use Rattle.std.specs.Prelude.{slice_get}
 use Rattle.vx_base.specs.declared.event.Event.TheVariants as event

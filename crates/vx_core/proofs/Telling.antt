@@ -1,5 +1,5 @@
 -- The faults stay in order behind one more turn.
-use Rattle.std.proofs.Common.{◌≡◌, ℕ, ◌+◌, ◌<◌, List, [], ◌∷◌, ◌++◌, ◌&&◌, not, length, Bool, true, false, Option, Some, None, get_or, refl, sym, ◌∙◌, ap, subst, inl, inr, append_assoc, append-nil}
+use Rattle.std.proofs.Common.{◌≡◌, ℕ, ◌+◌, List, [], ◌∷◌, ◌++◌, ◌&&◌, not, Bool, true, false, Option, Some, None, refl, sym, ◌∙◌, ap, subst, inl, inr, append_assoc, append-nil}
 use Rattle.std.proofs.lemmas.List.Elements.{All-push, All-nil}
 use Rattle.std.proofs.lemmas.Option.{slice_get_within, get_or_from_slice_get}
 use Rattle.std.specs.Prelude.{All, slice_get}
@@ -18,7 +18,8 @@ use Rattle.vx_mount.specs.Cores.{is_end}
 use Rattle.vx_core.proofs.Lasting.{last_is}
 use Rattle.vx_core.specs.Faults.{TellsNoFault, TellsDisabled, IsStop, after_reply, before_reply, StopsAt, AreOver, AreInOrder, TellsFaults, TellsInOrder}
 use Rattle.vx_core.proofs.Standings.{standing_over}
-use Rattle.vx_core.specs.Mounts.{MountView, HasFailed, IsStage, IsFaultless, TellsFault, Released, releases, leaves, noted, HasDone}
+use Rattle.vx_mount.specs.Faults.{IsFaultless, TellsFault}
+use Rattle.vx_core.specs.Mounts.{MountView, HasFailed, IsStage, Released, releases, leaves, noted, HasDone}
 
 -- ---- without a fault
 

@@ -1,5 +1,5 @@
 -- The events of one turn, one after another.
-use Rattle.std.proofs.Common.{◌≡◌, ℕ, ◌+◌, ◌≤◌, List, [], ◌∷◌, ◌++◌, true, false, Some, None, refl, sym, ap, subst, ◌∙◌, append_assoc, append-nil, arith}
+use Rattle.std.proofs.Common.{◌≡◌, ◌≢◌, ℕ, ◌+◌, ◌≤◌, List, [], ◌∷◌, ◌++◌, true, false, Some, None, refl, sym, ap, subst, ◌∙◌, append_assoc, append-nil, arith}
 use Rattle.std.specs.Prelude.{All}
 use Rattle.std.proofs.lemmas.List.Elements.{All-append, All-cons}
 use Rattle.vx_base.specs.declared.call.Call.{Call}
@@ -8,8 +8,8 @@ use Rattle.vx_base.specs.declared.event.Event.TheVariants as event
 use Rattle.vx_base.specs.declared.reply.Reply.{Reply}
 use Rattle.vx_base.specs.Lines.{line_after}
 use Rattle.vx_model.specs.Legal.{World, at_of}
-use Rattle.vx_mount.specs.Sessions.{IsDoOf, begun, answered, standing, ready}
-use Rattle.vx_mount.specs.Pieces.{IsOwn, IsPiece, is_ready, may_rest, is_stopping, IsTurn}
+use Rattle.vx_mount.specs.Sessions.{IsDoOf, begun, answered}
+use Rattle.vx_mount.specs.Pieces.{IsOwn, IsPiece, may_rest, is_stopping, HasNoneUnderWay}
 use Rattle.vx_core.specs.declared.session.Session.{Session}
 use Rattle.vx_core.specs.declared.session.UnderWay.{UnderWay}
 use Rattle.vx_core.specs.Tracks.{session_at, calls_under_way, IsUnderWay, IsAnyUnderWay, Tracks}
@@ -21,6 +21,11 @@ pub record TurnSoFar (lines : List (List Call)) (s : ℕ) (h : List Event) (m : 
   pub own : IsPiece lines s h piece
   pub onward : m ≤ count
   pub inside : All (λ e. (m ≤ at_of e) × (at_of e ≤ count)) piece
+
+pub record TurnEnds (lines : List (List Call)) (s : ℕ) (h : List Event) (m : ℕ) (now : List Event) (count : ℕ) : Type 0 where
+  pub so_far : TurnSoFar lines s h m now count
+  pub rests : so_far.piece ≡ [] → count ≡ m → may_rest lines h s ≡ true
+  pub whole : so_far.piece ≢ [] → is_stopping now ≡ false
 
 piece_more : (lines : List (List Call)) (s : ℕ) (h piece : List Event) (e : Event) → IsPiece lines s h piece → IsOwn lines s (h ++ piece) e → IsPiece lines s h (piece ++ e ∷ [])
 piece_more lines s h [] e all own = (subst (λ k. IsOwn lines s k e) (append-nil h) own, tt)
@@ -52,17 +57,12 @@ module _ (lines : List (List Call)) (s : ℕ) (h : List Event) (m : ℕ) where
         (All-cons (λ x. (m ≤ at_of x) × (at_of x ≤ count)) e [] (low, high) (λ i d lt. absurd (omega arith)));
   }
 
-  -- the whole turn of a session that is ready
-  pub turn_ends : (now : List Event) (count : ℕ) → TurnSoFar lines s h m now count → standing lines h s ≡ ready → is_stopping now ≡ false → (now ≡ h → count ≡ m → may_rest lines h s ≡ true) → IsTurn lines s h m now count
-  turn_ends now count t stands settled rests = record {
-    piece = t.piece;
-    grown = t.grown;
-    own = t.own;
-    onward = t.onward;
-    inside = t.inside;
+  -- the whole turn of a session that is ready, but for what it tells of the device
+  pub turn_ends : (now : List Event) (count : ℕ) → TurnSoFar lines s h m now count → is_stopping now ≡ false → (now ≡ h → count ≡ m → may_rest lines h s ≡ true) → TurnEnds lines s h m now count
+  turn_ends now count t settled rests = record {
+    so_far = t;
     rests = λ none same. rests (t.grown ∙ ap (λ (p : List Event). h ++ p) none ∙ append-nil h) same;
     whole = λ _. settled;
-    still = λ no. absurd (let yes : is_ready (standing lines h s) ≡ true = ap is_ready stands in cc);
   }
 
 -- ---- whose events they are
@@ -80,3 +80,12 @@ module _ (lines : List (List Call)) (w : World) (h : List Event) (sessions : Lis
       let started : begun s h ≡ n + 1 = t.begun_is s ∙ ap (λ (z : Session). z.answered + calls_under_way z.under_way) is in
       let done : answered s h ≡ n = t.answered_is s ∙ ap (λ (z : Session). z.answered) is in
       (subst (IsDoOf s (begun s h)) (sym x.stands) (refl, sym started), started ∙ ap (λ k. k + 1) (sym done))
+
+-- ---- where no call is under way at the end
+
+module _ (lines : List (List Call)) (w : World) (h : List Event) (sessions : List Session) (t : Tracks lines w h sessions) (s n : ℕ) (is : session_at sessions s ≡ record { answered = n; under_way = None }) where
+  pub so_many : answered s h ≡ n
+  so_many = t.answered_is s ∙ ap (λ (z : Session). z.answered) is
+
+  pub none_left : HasNoneUnderWay s h
+  none_left = (let started : begun s h ≡ n + 0 = t.begun_is s ∙ ap (λ (z : Session). z.answered + calls_under_way z.under_way) is in let done = so_many in omega arith)

@@ -9,7 +9,8 @@ use Rattle.vx_base.specs.Lines.{line_after}
 use Rattle.vx_model.specs.Legal.{World, after_all, at_of}
 use Rattle.vx_mount.specs.GrowthLaws.{GrowthLaws}
 use Rattle.vx_mount.specs.Sessions.{answered, standing}
-use Rattle.vx_mount.specs.Cores.{AllFinished, AreUnmountEvents, UnmountsOn, has_ended, is_end}
+use Rattle.vx_mount.specs.Cores.{AreUnmountEvents, IsUnmountTurn, has_ended, is_end}
+use Rattle.vx_mount.specs.Views.{AllFinished}
 use Rattle.vx_core.specs.declared.session.Session.{Session}
 use Rattle.vx_core.specs.Facts.{IsScript, Facts, view_of}
 use Rattle.vx_core.specs.Faults.{AreOver}
@@ -34,9 +35,9 @@ open_runs built o was v lists sessions false f open_end = (
   ],
 )
 
-pub not_ended : (v : MountView) (lists : List (List Call)) → is_some v.disabled ≡ false → is_end (last_event v.history) ≡ false → has_ended (view_of v lists) ≡ false
+pub not_ended : (v : MountView) (lists : List (List Call)) (locks : List (Option ℕ)) → is_some v.disabled ≡ false → is_end (last_event v.history) ≡ false → has_ended (view_of v lists locks) ≡ false
 unfolding has_ended
-not_ended v lists enabled open_end = rw (open_end, enabled) refl
+not_ended v lists locks enabled open_end = rw (open_end, enabled) refl
 
 pub not_disabled : (o : Option ℕ) → is_some o ≡ false → o ≡ None
 not_disabled None e = refl
@@ -46,16 +47,16 @@ or_true : (b : Bool) → (b || true) ≡ true
 or_true true = refl
 or_true false = refl
 
-pub ended_disabled : (v : MountView) (lists : List (List Call)) → is_some v.disabled ≡ true → has_ended (view_of v lists) ≡ true
+pub ended_disabled : (v : MountView) (lists : List (List Call)) (locks : List (Option ℕ)) → is_some v.disabled ≡ true → has_ended (view_of v lists locks) ≡ true
 unfolding has_ended
-ended_disabled v lists disabled = ap (λ b. is_end (last_event v.history) || b) disabled ∙ or_true (is_end (last_event v.history))
+ended_disabled v lists locks disabled = ap (λ b. is_end (last_event v.history) || b) disabled ∙ or_true (is_end (last_event v.history))
 
-pub ended_last : (v : MountView) (lists : List (List Call)) → is_end (last_event v.history) ≡ true → has_ended (view_of v lists) ≡ true
+pub ended_last : (v : MountView) (lists : List (List Call)) (locks : List (Option ℕ)) → is_end (last_event v.history) ≡ true → has_ended (view_of v lists locks) ≡ true
 unfolding has_ended
-ended_last v lists end = rw end refl
+ended_last v lists locks end = rw end refl
 
 module _ (laws : GrowthLaws) (built : Call → Type 0) (o : World) (was : Type 0) (v : MountView) (lists : List (List Call)) (sessions : List Session) (f : Facts built o was v lists sessions false)
-    (runs : IsRunning (after_all o v.history) v.history) (ended : AllFinished (view_of v lists)) where
+    (runs : IsRunning (after_all o v.history) v.history) (ended : AllFinished (view_of v lists [])) where
   abbrev lines : List (List Call)
   lines = script_lines lists v.history
 
@@ -125,13 +126,19 @@ module _ (laws : GrowthLaws) (built : Call → Type 0) (o : World) (was : Type 0
       over = λ _ s. ap (λ l. line_after l s (answered s later.history)) now.same ∙ now.over s;
     }
 
-    pub unmounts : UnmountsOn (view_of v lists) (view_of later lists)
-    unmounts = record {
-      events = leaves b r later.count upto;
-      grown = is;
-      own = own_by b r later.count upto;
-      onward = stage.later;
-      inside = inside_by v.count later.count stage.later b r upto;
-      same_lines = now.same;
-      still = λ s lt. ap (λ l. standing l later.history s) now.same ∙ standing_over lines later.history s (now.over s);
+    pub unmounts : (locks : List (Option ℕ)) → has_ended (view_of v lists locks) ≡ false → IsUnmountTurn (view_of v lists locks) (view_of later lists locks)
+    unmounts locks goes_on = record {
+      goes_on = goes_on;
+      on = record {
+        events = leaves b r later.count upto;
+        grown = is;
+        own = own_by b r later.count upto;
+        onward = stage.later;
+        inside = inside_by v.count later.count stage.later b r upto;
+        same_lines = now.same;
+        same_logging = stage.logging;
+        failing = stage.failing;
+        still = λ s lt. ap (λ l. standing l later.history s) now.same ∙ standing_over lines later.history s (now.over s);
+      };
+      few = stage.few;
     }

@@ -1,5 +1,5 @@
 -- What a core keeps between two turns.
-use Rattle.std.specs.Prelude.{◌≡◌, ◌+◌, ◌≤◌, ◌<◌, ℕ, Bool, true, false, List, [], length, set, is_some, Option, None, Some, IsSome}
+use Rattle.std.specs.Prelude.{◌≡◌, ◌+◌, ◌≤◌, ◌<◌, ℕ, Bool, true, false, List, [], length, set, slice_get, Option, None, Some, IsSome}
 use Rattle.vx_base.specs.declared.call.Call.{Call}
 use Rattle.vx_base.specs.declared.event.Event.TheVariants as event
 use Rattle.vx_base.specs.declared.refusal.Refusal.{Refusal}
@@ -9,8 +9,9 @@ use Rattle.vx_base.specs.Lines.{lines_of, line_after}
 use Rattle.std.specs.FinMap as map
 use Rattle.vx_grammar.specs.Orders.{HasOrder}
 use Rattle.vx_model.specs.Legal.{World, in_use, after_all, is_stop}
-use Rattle.vx_mount.specs.Cores.{CoreView, Opening}
+use Rattle.vx_mount.specs.Cores.{Opening}
 use Rattle.vx_mount.specs.Sessions.{answered, standing, finished, waiting, ready}
+use Rattle.vx_mount.specs.Views.{CoreView}
 use Rattle.vx_core.specs.declared.session.Session.{Session}
 use Rattle.vx_core.specs.declared.session.UnderWay.{UnderWay}
 use Rattle.vx_core.specs.declared.engine.Next.{Next}
@@ -39,8 +40,13 @@ pub record Facts (built : Call → Type 0) (o : World) (kept : Type 0) (v : Moun
   -- the mount is being left only where no line is left
   pub over : v.leaving ≡ true → (s : ℕ) → line_after (script_lines lists v.history) s (answered s v.history) ≡ None
 
+-- no session holds a lock: the calls on names lock nothing
+abbrev pub AreFree : (locks : List (Option ℕ)) → Type 0
+AreFree locks = (ino holder : ℕ) → slice_get locks ino ≡ Some (Some holder) → ⊥
+
 -- what a core needs for its next turn: what it keeps for some world, and room in the history
-pub record IsSound (built : Call → Type 0) (kept : World → Type 0) (v : MountView) (lists : List (List Call)) (sessions : List Session) (ended : Bool) : Type 0 where
+pub record IsSound (built : Call → Type 0) (kept : World → Type 0) (v : MountView) (lists : List (List Call)) (sessions : List Session) (locks : List (Option ℕ)) (ended : Bool) : Type 0 where
+  pub free : AreFree locks
   pub world : World
   pub facts : Facts built world (kept world) v lists sessions ended
   pub room : HasRoom v lists sessions
@@ -63,8 +69,8 @@ pub record IsNew (v : MountView) : Type 0 where
   pub enabled : v.disabled ≡ None
   pub leaving : v.leaving ≡ false
 
-abbrev pub view_of : MountView → List (List Call) → CoreView
-view_of v lists = record { lines = script_lines lists v.history; history = v.history; count = v.count; locks = []; disabled = is_some v.disabled }
+abbrev pub view_of : MountView → List (List Call) → (locks : List (Option ℕ)) → CoreView
+view_of v lists locks = record { lines = script_lines lists v.history; history = v.history; logging = v.logging; count = v.count; write_faults = v.write_faults; disabled = v.disabled; locks = locks }
 
 -- what a session's turn is to do
 abbrev pub IsNext : MountView → List (List Call) → List Session → ℕ → Bool → Next → Type 0

@@ -1,16 +1,16 @@
 -- Where in a history the faults of the device are told.
-use Rattle.std.specs.Prelude.{◌≡◌, ◌⊎◌, ℕ, true, List, [], ◌∷◌, ◌++◌, Option, Some, None, IsSome, All}
+use Rattle.std.specs.Prelude.{◌≡◌, ◌⊎◌, ℕ, true, List, [], ◌∷◌, ◌++◌, Option, Some, None, All}
 use Rattle.vx_base.specs.declared.call.Call.{Call}
 use Rattle.vx_base.specs.declared.event.Event.{Event}
 use Rattle.vx_base.specs.declared.event.Event.TheVariants as event
 use Rattle.vx_base.specs.declared.refusal.Refusal.TheVariants as no
-use Rattle.vx_base.specs.declared.reply.Reply.{Reply}
 use Rattle.vx_base.specs.declared.reply.Reply.TheVariants as say
 use Rattle.vx_base.specs.Faults.{Rose}
 use Rattle.vx_base.specs.Lines.{line_after}
 use Rattle.vx_mount.specs.Cores.{is_end}
+use Rattle.vx_mount.specs.Faults.{IsFaultless}
 use Rattle.vx_mount.specs.Sessions.{answered}
-use Rattle.vx_core.specs.Mounts.{MountView, IsFaultless}
+use Rattle.vx_core.specs.Mounts.{MountView}
 use Rattle.vx_core.specs.Tracks.{last_event}
 
 -- no fault of the device is told

@@ -6,12 +6,11 @@ use Rattle.vx_base.specs.declared.call.Call.TheVariants as call
 use Rattle.vx_base.specs.declared.event.Event.{Event}
 use Rattle.vx_base.specs.declared.event.Event.TheVariants as event
 use Rattle.vx_base.specs.declared.mode.Logging.{Logging}
-use Rattle.vx_base.specs.declared.refusal.Refusal.{Refusal}
-use Rattle.vx_base.specs.declared.refusal.Refusal.TheVariants as no
 use Rattle.vx_base.specs.declared.reply.Reply.{Reply}
-use Rattle.vx_base.specs.declared.reply.Reply.TheVariants as say
-use Rattle.vx_base.specs.Faults.{Rose}
 use Rattle.vx_base.specs.Lines.{lines_of, line_after}
+use Rattle.vx_mount.specs.Faults as turn
+use Rattle.vx_mount.specs.Faults.{TellsFault}
+use Rattle.vx_mount.specs.Pieces.{stage_operations}
 use Rattle.vx_model.specs.Allowed.{call_at, has_front, is_refusal}
 use Rattle.vx_model.specs.Legal.{World, in_use, stopping, RetAllowed, after_all, is_idle}
 use Rattle.vx_core.specs.declared.calls.Performed.{Performed}
@@ -78,18 +77,15 @@ pub record IsLeavable (kept : World → Type 0) (v : MountView) : Type 0 where
 
 -- ---- what it does
 
--- How failed writes disable a mount: where none fails their number stays, the first one disables the mount by it, and a disabled mount
--- does no operation.
+-- how failed writes disable a mount
 abbrev pub HasFailed : (before now : Option ℕ) → (old new : MountView) → Type 0
-HasFailed None None old new = new.write_faults ≡ old.write_faults
-HasFailed None (Some faults) old new = Rose old.write_faults new.write_faults × (faults ≡ new.write_faults)
-HasFailed (Some faults) now old new = (now ≡ Some faults) × ((new.count ≡ old.count) × (new.write_faults ≡ old.write_faults))
+HasFailed before now old new = turn.HasFailed before now old.count new.count old.write_faults new.write_faults
 
 -- at most one stage of the device
 pub record IsStage (old new : MountView) : Type 0 where
   pub logging : new.logging ≡ old.logging
   pub later : old.count ≤ new.count
-  pub few : new.count ≤ old.count + 8
+  pub few : new.count ≤ old.count + stage_operations
   pub failing : HasFailed old.disabled new.disabled old new
 
 -- the blocks that waited were released, or none were
@@ -101,24 +97,6 @@ pub record Released (old new : List Event) (at : ℕ) : Type 0 where
   pub released : Bool
   pub upto : ℕ
   pub is : new ≡ old ++ releases released at upto
-
--- a refusal that a fault of the device has caused, in this call or an earlier one
-abbrev pub is_of_device : Refusal → Bool
-is_of_device no.ReadFault = true
-is_of_device no.WriteFault = true
-is_of_device (no.Disabled faults) = true
-is_of_device _ = false
-
-abbrev pub IsFaultless : Reply → Type 0
-IsFaultless (say.Refused why) = is_of_device why ≡ false
-IsFaultless _ = Unit {0}
-
--- How a turn tells the device's faults: where no write has failed in this mount, the answer tells none; where one fails in this very
--- turn it is WriteFault; and where one had failed before it is Disabled, with the count of then.
-abbrev pub TellsFault : (before now : Option ℕ) → (write_faults : ℕ) → Reply → Type 0
-TellsFault None None write_faults answer = IsFaultless answer
-TellsFault None (Some faults) write_faults answer = (faults ≡ write_faults) × (answer ≡ say.Refused no.WriteFault)
-TellsFault (Some faults) now write_faults answer = (now ≡ Some faults) × (answer ≡ say.Refused (no.Disabled faults))
 
 -- the session's line after so many was done: the Do stands last in the history, and its line was moved there
 pub record HasDone (old new : MountView) (lines later : List (List Call)) (session answered place : ℕ) (answer : Reply) (commits : Bool) : Type 0 where

@@ -1,6 +1,6 @@
 //! What a core asks of its mount.
 use std::alloc::Global;
-use vx_base::{LineLists, Reply};
+use vx_base::{Event, LineLists, Reply};
 use vx_dev::DevFault;
 
 /// What a turn that begins a call comes to.
@@ -122,6 +122,10 @@ pub trait Calls {
         ensures room { IfOk result (λ left. (view self.old).spare ≤ (view self.new).spare + one_if left) }
         ensures held { OnErr result ((view self.old).spare ≤ (view self.new).spare) }
         ensures owed { owed self.new < owed self.old };
+
+    /// The history so far.
+    fn history(&self) -> &[Event]
+        ensures { result.now ≡ (view self.now).history };
 
     /// The count of the first failed write, where the mount is disabled.
     fn disabled(&self) -> Option<u64>

@@ -4,7 +4,8 @@ ghost use Rattle.vx_model.specs.Legal.{World};
 ghost use Rattle.vx_base.specs.Lines.{line_after};
 ghost use Rattle.vx_model.specs.Allowed.{is_refusal};
 ghost use Rattle.vx_model.specs.Legal.{is_stop};
-ghost use Rattle.vx_mount.specs.Cores.{CanGoOn, GoesOn, AllFinished, TakesTurn, TakesUnmountTurn};
+ghost use Rattle.vx_mount.specs.Cores.{CanGoOn, GoesOn, TakesTurn, TakesUnmountTurn};
+ghost use Rattle.vx_mount.specs.Views.{AllFinished};
 ghost use Rattle.vx_mount.specs.declared.turns.Turn.TheVariants.{Turned};
 ghost use Rattle.vx_mount.specs.Sessions.{standing, ready};
 ghost use Rattle.vx_core.specs.Lines.{script_lines};
@@ -14,12 +15,13 @@ ghost use Rattle.vx_core.specs.Faults.{TellsInOrder};
 ghost use Rattle.vx_core.specs.declared.session.UnderWay.{UnderWay};
 ghost use Rattle.vx_core.specs.Mounts.{IsUsed, MayAnswer};
 ghost use Rattle.vx_core.specs.Tracks.{session_at, under_way_at};
-ghost use Rattle.vx_core.specs.Facts.{Facts, IsNext, HasAnswered, answer_of, view_of, is_fine, is_stop_line};
+ghost use Rattle.vx_core.specs.Facts.{AreFree, Facts, IsNext, HasAnswered, answer_of, view_of, is_fine, is_stop_line};
 
 use crate::calls::{Calls, Performed};
 use crate::session::{Session, UnderWay};
 use std::alloc::Global;
-use vx_base::{Call, LineLists, Refusal, Reply, WaitsFor};
+use vx_base::{Call, Event, LineLists, Refusal, Reply, WaitsFor};
+use vx_locks::LockTable;
 use vx_mount::Turn;
 use vx_mount::laws::growth_laws;
 
@@ -43,6 +45,8 @@ pub struct Core<M> {
     /// The lines of each session; a `sync` stands for each that was moved into the history.
     pub lines: LineLists,
     pub sessions: Vec<Session>,
+    /// Which session holds each inode's lock; the calls on names lock nothing.
+    pub locks: LockTable,
     /// The run was stopped.
     pub stopped: bool,
 }
@@ -152,12 +156,13 @@ impl<M: Calls> Core<M> {
         requires under_way { IsSome (under_way_at self.old.sessions.items actor) }
         requires free { (M.view self.old.mount).leaving ≡ false }
         requires room { HasRoom (M.view self.old.mount) self.old.lines self.old.sessions.items }
-        ensures goes { GoesOn (view_of (M.view self.old.mount) self.old.lines) actor (view_of (M.view self.new.mount) self.new.lines) }
+        ensures goes { GoesOn (view_of (M.view self.old.mount) self.old.lines self.old.locks) actor (view_of (M.view self.new.mount) self.new.lines self.new.locks) }
         ensures kept { (o : World) → Facts M.built o (M.kept o self.old.mount) (M.view self.old.mount) self.old.lines self.old.sessions.items self.old.stopped
             → Facts M.built o (M.kept o self.new.mount) (M.view self.new.mount) self.new.lines self.new.sessions.items self.new.stopped }
         ensures room { HasRoom (M.view self.new.mount) self.new.lines self.new.sessions.items }
         ensures logging { (M.view self.new.mount).logging ≡ (M.view self.old.mount).logging }
         ensures order { (before : ℕ) → TellsInOrder before (M.view self.old.mount) (script_lines self.old.lines (M.view self.old.mount).history) → TellsInOrder before (M.view self.new.mount) (script_lines self.new.lines (M.view self.new.mount).history) }
+        ensures locks { self.new.locks ≡ self.old.locks }
         ensures less { work_of M.per_call (M.owed self.new.mount) (script_lines self.new.lines (M.view self.new.mount).history) self.new.sessions.items < work_of M.per_call (M.owed self.old.mount) (script_lines self.old.lines (M.view self.old.mount).history) self.old.sessions.items }
     {
         // The proof rests on these laws; nothing runs here.
@@ -210,12 +215,13 @@ impl<M: Calls> Core<M> {
         requires line { IsSome (line_after self.old.lines actor (session_at self.old.sessions.items actor).answered) }
         requires free { (M.view self.old.mount).leaving ≡ false }
         requires room { HasRoom (M.view self.old.mount) self.old.lines self.old.sessions.items }
-        ensures goes { GoesOn (view_of (M.view self.old.mount) self.old.lines) actor (view_of (M.view self.new.mount) self.new.lines) }
+        ensures goes { GoesOn (view_of (M.view self.old.mount) self.old.lines self.old.locks) actor (view_of (M.view self.new.mount) self.new.lines self.new.locks) }
         ensures kept { (o : World) → Facts M.built o (M.kept o self.old.mount) (M.view self.old.mount) self.old.lines self.old.sessions.items self.old.stopped
             → Facts M.built o (M.kept o self.new.mount) (M.view self.new.mount) self.new.lines self.new.sessions.items self.new.stopped }
         ensures room { HasRoom (M.view self.new.mount) self.new.lines self.new.sessions.items }
         ensures logging { (M.view self.new.mount).logging ≡ (M.view self.old.mount).logging }
         ensures order { (before : ℕ) → TellsInOrder before (M.view self.old.mount) (script_lines self.old.lines (M.view self.old.mount).history) → TellsInOrder before (M.view self.new.mount) (script_lines self.new.lines (M.view self.new.mount).history) }
+        ensures locks { self.new.locks ≡ self.old.locks }
         ensures less { work_of M.per_call (M.owed self.new.mount) (script_lines self.new.lines (M.view self.new.mount).history) self.new.sessions.items < work_of M.per_call (M.owed self.old.mount) (script_lines self.old.lines (M.view self.old.mount).history) self.old.sessions.items }
     {
         // The proof rests on these laws; nothing runs here.
@@ -247,18 +253,41 @@ impl<M: Calls> Core<M> {
         }
     }
 
+    /// The history so far.
+    pub fn history(&self) -> &[Event]
+        ensures { result.now ≡ (view_of (M.view self.now.mount) self.now.lines self.now.locks).history }
+    {
+        self.mount.history()
+    }
+
+    /// The mount, for whoever takes no further turn: with its device and its history.
+    pub fn into_mount(self) -> M
+        ensures { result ≡ self.mount }
+    {
+        let Core {
+            mount,
+            alloc: _,
+            lines: _,
+            sessions: _,
+            locks: _,
+            stopped: _,
+        } = self;
+        mount
+    }
+
     /// The number of sessions.
     pub fn session_count(&self) -> u8
         requires { (o : World) × Facts M.built o (M.kept o self.now.mount) (M.view self.now.mount) self.now.lines self.now.sessions.items self.now.stopped }
-        ensures { result ≡ length (view_of (M.view self.now.mount) self.now.lines).lines }
+        ensures { result ≡ length (view_of (M.view self.now.mount) self.now.lines self.now.locks).lines }
     {
         self.lines.len() as u8
     }
 
     /// What every core keeps, by which some session can always go on until all are finished.
     pub fn can_go_on(&self)
-        requires { (o : World) × Facts M.built o (M.kept o self.now.mount) (M.view self.now.mount) self.now.lines self.now.sessions.items self.now.stopped }
-        ensures { CanGoOn (view_of (M.view self.now.mount) self.now.lines) }
+        requires sound { (o : World) × Facts M.built o (M.kept o self.now.mount) (M.view self.now.mount) self.now.lines self.now.sessions.items self.now.stopped }
+        requires free { AreFree self.now.locks }
+        ensures { CanGoOn (view_of (M.view self.now.mount) self.now.lines self.now.locks) }
     {}
 
     /// One turn of a session (docs/SESSIONS.md): it goes on with its line by at most one stage of the device, or does nothing and says
@@ -267,13 +296,14 @@ impl<M: Calls> Core<M> {
         requires sound { (o : World) × Facts M.built o (M.kept o self.old.mount) (M.view self.old.mount) self.old.lines self.old.sessions.items self.old.stopped }
         requires actor { actor < length self.old.sessions.items }
         requires room { HasRoom (M.view self.old.mount) self.old.lines self.old.sessions.items }
-        ensures turn { TakesTurn (view_of (M.view self.old.mount) self.old.lines) actor result (view_of (M.view self.new.mount) self.new.lines) }
+        ensures turn { TakesTurn (view_of (M.view self.old.mount) self.old.lines self.old.locks) actor result (view_of (M.view self.new.mount) self.new.lines self.new.locks) }
         ensures idle { result ≢ Turned → self.new ≡ self.old }
         ensures kept { (o : World) → Facts M.built o (M.kept o self.old.mount) (M.view self.old.mount) self.old.lines self.old.sessions.items self.old.stopped
             → Facts M.built o (M.kept o self.new.mount) (M.view self.new.mount) self.new.lines self.new.sessions.items self.new.stopped }
         ensures room { HasRoom (M.view self.new.mount) self.new.lines self.new.sessions.items }
         ensures logging { (M.view self.new.mount).logging ≡ (M.view self.old.mount).logging }
         ensures order { (before : ℕ) → TellsInOrder before (M.view self.old.mount) (script_lines self.old.lines (M.view self.old.mount).history) → TellsInOrder before (M.view self.new.mount) (script_lines self.new.lines (M.view self.new.mount).history) }
+        ensures locks { self.new.locks ≡ self.old.locks }
         ensures less { result ≡ Turned → work_of M.per_call (M.owed self.new.mount) (script_lines self.new.lines (M.view self.new.mount).history) self.new.sessions.items < work_of M.per_call (M.owed self.old.mount) (script_lines self.old.lines (M.view self.old.mount).history) self.old.sessions.items }
     {
         // The proof rests on these laws; nothing runs here.
@@ -296,14 +326,15 @@ impl<M: Calls> Core<M> {
     /// history ends with Stopped or Unmounted, or the mount is disabled. It adds at most one event to the history.
     pub fn take_unmount_turn(&mut self) -> Turn
         requires sound { (o : World) × Facts M.built o (M.kept o self.old.mount) (M.view self.old.mount) self.old.lines self.old.sessions.items self.old.stopped }
-        requires finished { AllFinished (view_of (M.view self.old.mount) self.old.lines) }
+        requires finished { AllFinished (view_of (M.view self.old.mount) self.old.lines self.old.locks) }
         requires room { HasRoom (M.view self.old.mount) self.old.lines self.old.sessions.items }
-        ensures turn { TakesUnmountTurn (view_of (M.view self.old.mount) self.old.lines) result (view_of (M.view self.new.mount) self.new.lines) }
+        ensures turn { TakesUnmountTurn (view_of (M.view self.old.mount) self.old.lines self.old.locks) result (view_of (M.view self.new.mount) self.new.lines self.new.locks) }
         ensures kept { (o : World) → Facts M.built o (M.kept o self.old.mount) (M.view self.old.mount) self.old.lines self.old.sessions.items self.old.stopped
             → Facts M.built o (M.kept o self.new.mount) (M.view self.new.mount) self.new.lines self.new.sessions.items self.new.stopped }
         ensures room { HasRoom (M.view self.new.mount) self.new.lines self.new.sessions.items }
         ensures logging { (M.view self.new.mount).logging ≡ (M.view self.old.mount).logging }
         ensures order { (before : ℕ) → TellsInOrder before (M.view self.old.mount) (script_lines self.old.lines (M.view self.old.mount).history) → TellsInOrder before (M.view self.new.mount) (script_lines self.new.lines (M.view self.new.mount).history) }
+        ensures locks { self.new.locks ≡ self.old.locks }
         ensures less { result ≡ Turned → work_of M.per_call (M.owed self.new.mount) (script_lines self.new.lines (M.view self.new.mount).history) self.new.sessions.items < work_of M.per_call (M.owed self.old.mount) (script_lines self.old.lines (M.view self.old.mount).history) self.old.sessions.items }
     {
         // The proof rests on these laws; nothing runs here.

@@ -2,7 +2,7 @@
 ghost use Rattle.std.specs.Prelude.{◌≡◌, ◌*◌, ◌+◌, ◌≤◌, ◌<◌, ℕ, IfOk, length};
 ghost use Rattle.vx_base.specs.Lines.{lines_of};
 ghost use Rattle.vx_mount.specs.Cores.{Opening};
-ghost use Rattle.vx_core.specs.Facts.{IsScript, IsSound, IsKept, IsBegun, IsNew, view_of};
+ghost use Rattle.vx_core.specs.Facts.{IsScript, AreFree, IsSound, IsKept, IsBegun, IsNew, view_of};
 ghost use Rattle.vx_core.specs.Lines.{script_lines};
 ghost use Rattle.vx_core.specs.Tracks.{no_session, session_at};
 ghost use Rattle.vx_core.specs.Works.{line_count, work_of};
@@ -12,6 +12,7 @@ use crate::engine::Core;
 use crate::session::Session;
 use std::alloc::{AllocError, Global};
 use vx_base::LineLists;
+use vx_locks::LockTable;
 use vx_mount::laws::growth_laws;
 use vx_mount::{Turn, Turns};
 
@@ -44,20 +45,28 @@ pub fn line_count(lines: &LineLists) -> usize
 }
 
 impl<M: Calls> Core<M> {
-    /// A core over a mount whose history begins.
-    pub fn new(alloc: Global, mount: M, lines: LineLists, sessions: Vec<Session>) -> Core<M>
+    /// A core over a mount whose history begins. No session holds a lock.
+    pub fn new(
+        alloc: Global,
+        mount: M,
+        lines: LineLists,
+        sessions: Vec<Session>,
+        locks: LockTable,
+    ) -> Core<M>
         requires script { IsScript M.built lines }
         requires few { length lines ≤ 16 }
         requires new { IsNew (M.view mount) }
         requires count { length sessions.items ≡ length lines }
         requires each { (s : ℕ) → session_at sessions.items s ≡ no_session }
+        requires free { AreFree locks }
         requires room { 4 * line_count lines + 1 ≤ (M.view mount).spare }
         ensures kept { (o : Opening) → IsBegun o.world → M.kept o.world mount → (M.view mount).write_faults ≡ o.write_faults → (M.view mount).logging ≡ o.logging
             → IsKept M.built o (M.kept o.world result.mount) (M.view result.mount) result.lines result.sessions.items result.stopped }
         ensures sound { (o : Opening) → IsBegun o.world → M.kept o.world mount
-            → IsSound M.built (λ w. M.kept w result.mount) (M.view result.mount) result.lines result.sessions.items result.stopped }
+            → IsSound M.built (λ w. M.kept w result.mount) (M.view result.mount) result.lines result.sessions.items result.locks result.stopped }
         ensures lines { script_lines result.lines (M.view result.mount).history ≡ lines }
         ensures mount { result.mount ≡ mount }
+        ensures locks { result.locks ≡ locks }
     {
         // The proof rests on these laws; nothing runs here.
         growth_laws();
@@ -66,17 +75,18 @@ impl<M: Calls> Core<M> {
             alloc,
             lines,
             sessions,
+            locks,
             stopped: false,
         }
     }
 }
 
 impl<M: Calls> Turns for Core<M> {
-    ghost view = { λ c. view_of (M.view c.mount) c.lines };
+    ghost view = { λ c. view_of (M.view c.mount) c.lines c.locks };
 
     ghost work = { λ c. work_of M.per_call (M.owed c.mount) (script_lines c.lines (M.view c.mount).history) c.sessions.items };
 
-    ghost sound = { λ c. IsSound M.built (λ o. M.kept o c.mount) (M.view c.mount) c.lines c.sessions.items c.stopped };
+    ghost sound = { λ c. IsSound M.built (λ o. M.kept o c.mount) (M.view c.mount) c.lines c.sessions.items c.locks c.stopped };
 
     ghost kept = { λ o c. IsKept M.built o (M.kept o.world c.mount) (M.view c.mount) c.lines c.sessions.items c.stopped };
 

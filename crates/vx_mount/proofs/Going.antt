@@ -13,7 +13,8 @@ use Rattle.vx_grammar.specs.NextLines.{AlwaysHasNextLine}
 use Rattle.vx_mount.specs.declared.turns.Turn.{Turn}
 use Rattle.vx_mount.specs.declared.turns.Turn.TheVariants.{Turned, Finished, Blocked}
 use Rattle.vx_mount.specs.Sessions.{answered, is_stopped, Standing, finished, waiting, ready, standing_at, standing}
-use Rattle.vx_mount.specs.Cores.{CoreView, standing_in, is_finished, IsStuck, WaitsForLock, CanGoOn, AllFinished, TakesTurn, TakesTurns}
+use Rattle.vx_mount.specs.Cores.{is_finished, IsStuck, WaitsForLock, CanGoOn, TakesTurn, TakesTurns}
+use Rattle.vx_mount.specs.Views.{CoreView, standing_in, AllFinished}
 use Rattle.vx_mount.proofs.Stepping.{no_turns, turns_more}
 
 -- ---- where sessions stand

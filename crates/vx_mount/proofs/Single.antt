@@ -12,7 +12,9 @@ use Rattle.vx_model.specs.Legal.{at_of}
 use Rattle.vx_mount.specs.declared.turns.Turn.TheVariants.{Turned, Finished}
 use Rattle.vx_mount.specs.Sessions.{begun, answered, is_stopped, standing, finished, ready}
 use Rattle.vx_mount.specs.Pieces.{is_stopping}
-use Rattle.vx_mount.specs.Cores.{CanGoOn, AllFinished, TakesTurn, TakesUnmountTurn, has_ended}
+use Rattle.vx_mount.specs.Cores.{CanGoOn, TakesTurn, TakesUnmountTurn, has_ended}
+use Rattle.vx_mount.specs.Faults.{EventTellsFault}
+use Rattle.vx_mount.specs.Views.{AllFinished}
 use Rattle.vx_mount.specs.Singles.{one_line, events_of, view_of}
 
 pub answers_line : (actor : ℕ) → actor < 1 → TakesTurn (view_of None) actor Turned (view_of (Some false))
@@ -24,14 +26,21 @@ answers_line zero lt = record {
     grown = refl;
     own = ((refl, (refl, (refl, refl))), (((refl, refl), refl), tt));
     onward = omega arith;
+    few = omega arith;
     inside = All-cons (λ e. (0 ≤ at_of e) × (at_of e ≤ 0)) (event.Do 0 0 1 call.Tick say.Fine) (event.Ret 0 0 say.Fine ∷ []) (omega arith, omega arith)
         (All-cons (λ e. (0 ≤ at_of e) × (at_of e ≤ 0)) (event.Ret 0 0 say.Fine) [] (omega arith, omega arith) (λ i d lt. absurd (omega arith)));
     rests = λ e _. absurd (cc);
     whole = λ _. refl;
     still = λ e. absurd (cc);
+    same_lines = refl;
+    same_logging = refl;
+    failing = refl;
+    tells = All-cons (EventTellsFault None None 0) (event.Do 0 0 1 call.Tick say.Fine) (event.Ret 0 0 say.Fine ∷ []) tt
+        (All-cons (EventTellsFault None None 0) (event.Ret 0 0 say.Fine) [] tt (λ i d lt. absurd (omega arith)));
+    answers = λ some. absurd (let no_way : false ≡ true = some in cc);
+    in_memory = λ _ _. refl;
+    quiet = λ some. absurd (let no_way : false ≡ true = some in cc);
   };
-  stage = omega arith;
-  same_lines = refl;
 }
 answers_line (suc n) lt = absurd (omega arith)
 
@@ -50,18 +59,21 @@ not_over f = let e : ready ≡ finished = f 0 (omega arith) in absurd (cc)
 
 pub unmounts : TakesUnmountTurn (view_of (Some false)) Turned (view_of (Some true))
 unfolding has_ended
-unmounts = (
-  refl,
-  record {
+unmounts = record {
+  goes_on = refl;
+  on = record {
     events = event.Unmounted 0 ∷ [];
     grown = refl;
     own = (tt, tt);
     onward = omega arith;
     inside = All-cons (λ e. (0 ≤ at_of e) × (at_of e ≤ 0)) (event.Unmounted 0) [] (omega arith, omega arith) (λ i d lt. absurd (omega arith));
     same_lines = refl;
+    same_logging = refl;
+    failing = refl;
     still = is_over true;
-  },
-)
+  };
+  few = omega arith;
+}
 
 pub is_unmounted : TakesUnmountTurn (view_of (Some true)) Finished (view_of (Some true))
 unfolding has_ended

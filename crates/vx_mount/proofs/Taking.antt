@@ -16,7 +16,8 @@ use Rattle.vx_base.specs.Lines.{lines_of, line_after}
 use Rattle.vx_mount.specs.Sessions.{is_line, is_line_there, is_call_of, IsDoOf, begun, answered, is_stopped, standing_at, finished}
 use Rattle.vx_mount.specs.Pieces.{IsOwn, IsPiece, IsTurn, Steps}
 use Rattle.vx_mount.specs.Schedules.{continued}
-use Rattle.vx_mount.specs.Cores.{CoreView, AllFinished, IsDriven, IsUnmountEvent, AreUnmountEvents, UnmountsOn}
+use Rattle.vx_mount.specs.Cores.{IsDriven, IsUnmountEvent, AreUnmountEvents, UnmountsOn}
+use Rattle.vx_mount.specs.Views.{CoreView, AllFinished}
 use Rattle.vx_mount.specs.Runs.{line_call, calls_begun, BeginsLines, HasNextNumber, AreNumbered, HasAnswer, IsPlacedBelow, TakesLines, AnswersLines}
 use Rattle.vx_mount.proofs.Growing.{slice_get-longer, slice_get-here, placed-more, begun-more, begun-do, answered-do, begun-ret, answered-ret, begun-other, answered-other}
 use Rattle.vx_mount.proofs.Going.{standing_running}
@@ -268,14 +269,16 @@ takes_piece lines a h [] own k = subst (TakesLines lines) (sym (append-nil h)) k
 takes_piece lines a h (e ∷ events) own k =
     subst (TakesLines lines) (append_assoc h (e ∷ []) events) (takes_piece lines a (h ++ e ∷ []) events own.1 (takes_more lines h e (own_keeps lines a h e own.0) k))
 
-pub takes_turn : (lines : List (List Call)) (a : ℕ) (h : List Event) (m : ℕ) (h2 : List Event) (m2 : ℕ) → IsTurn lines a h m h2 m2 → TakesLines lines h → TakesLines lines h2
-takes_turn lines a h m h2 m2 t k = subst (TakesLines lines) (sym t.grown) (takes_piece lines a h t.piece t.own k)
+pub takes_turn : (old : CoreView) (actor : ℕ) (new : CoreView) → IsTurn old actor new → TakesLines old.lines old.history → TakesLines old.lines new.history
+takes_turn old actor new t k = subst (TakesLines old.lines) (sym t.grown) (takes_piece old.lines actor old.history t.piece t.own k)
 
 -- whoever takes turns
-pub takes_steps : (lines : List (List Call)) (actors : List ℕ) (h : List Event) (m : ℕ) (h2 : List Event) (m2 : ℕ) → Steps lines h m actors h2 m2 → TakesLines lines h → TakesLines lines h2
-takes_steps lines [] h m h2 m2 s k = subst (TakesLines lines) (sym s.0) k
-takes_steps lines (a ∷ actors) h m h2 m2 s k =
-    takes_steps lines actors s.0 s.1.0 h2 m2 s.1.1.1 (takes_turn lines a h m s.0 s.1.0 s.1.1.0 k)
+pub takes_steps : (actors : List ℕ) (old new : CoreView) → Steps old actors new → TakesLines old.lines old.history → TakesLines old.lines new.history
+takes_steps [] old new s k = subst (λ (v : CoreView). TakesLines old.lines v.history) (sym s) k
+takes_steps (a ∷ actors) old new s k =
+    let same : s.0.lines ≡ old.lines = s.1.0.same_lines in
+    subst (λ l. TakesLines l new.history) same
+    (takes_steps actors s.0 new s.1.1 (subst (λ l. TakesLines l s.0.history) (sym same) (takes_turn old a s.0 s.1.0 k)))
 
 -- before the first turn
 pub takes_none : (lines : List (List Call)) → TakesLines lines []
@@ -329,7 +332,7 @@ answers_all v lines same ended k = record {
 pub answers_driven : (old : CoreView) (schedule : List ℕ) (new : CoreView) → IsDriven old schedule new → TakesLines old.lines old.history → AnswersLines old.lines new.history
 answers_driven old schedule new d k =
     answers_all new old.lines (sym d.turns.same_lines) d.ended
-    (takes_steps old.lines (continued schedule (length old.lines) d.rounds_taken) old.history old.count new.history new.count d.turns.steps k)
+    (takes_steps (continued schedule (length old.lines) d.rounds_taken) old new d.turns.steps k)
 
 -- ---- the unmount
 

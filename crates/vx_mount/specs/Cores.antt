@@ -1,6 +1,5 @@
--- What contracts see of a core, and what a turn does to it.
-use Rattle.std.specs.Prelude.{◌≡◌, ◌≢◌, ◌⊎◌, ℕ, ◌+◌, ◌-◌, ◌<◌, ◌≤◌, Bool, true, false, ◌||◌, List, [], ◌∷◌, ◌++◌, All, length, slice_get, Option, Some}
-use Rattle.vx_base.specs.declared.call.Call.{Call}
+-- What a turn does to a core.
+use Rattle.std.specs.Prelude.{◌≡◌, ◌≢◌, ◌⊎◌, ℕ, ◌+◌, ◌-◌, ◌<◌, ◌≤◌, Bool, true, false, ◌||◌, List, [], ◌∷◌, ◌++◌, All, length, slice_get, Option, Some, is_some}
 use Rattle.vx_base.specs.declared.call.Call.TheVariants as call
 use Rattle.vx_base.specs.declared.event.Event.{Event}
 use Rattle.vx_base.specs.declared.event.Event.TheVariants as event
@@ -9,33 +8,18 @@ use Rattle.vx_base.specs.declared.waits.WaitsFor.TheVariants.{Lock, After}
 use Rattle.vx_grammar.specs.Orders.{HasOrder}
 use Rattle.vx_mount.specs.declared.turns.Turn.{Turn}
 use Rattle.vx_mount.specs.declared.turns.Turn.TheVariants.{Turned, Finished, Blocked}
-use Rattle.vx_mount.specs.Sessions.{Standing, finished, waiting, ready, standing, is_stopped}
 use Rattle.vx_model.specs.Legal.{World, at_of}
-use Rattle.vx_mount.specs.Pieces.{may_rest, IsTurn, Steps}
+use Rattle.vx_mount.specs.Faults.{HasFailed}
+use Rattle.vx_mount.specs.Pieces.{may_rest, stage_operations, IsTurn, Steps}
 use Rattle.vx_mount.specs.Schedules.{continued}
+use Rattle.vx_mount.specs.Sessions.{finished, waiting, ready, is_stopped}
+use Rattle.vx_mount.specs.Views.{CoreView, standing_in, AllFinished}
 
 -- where a history begins: the world, the failed writes of the device by then, and the mode
 pub record Opening : Type 0 where
   pub world : World
   pub write_faults : ℕ
   pub logging : Logging
-
-pub record CoreView : Type 0 where
-  -- the lines of each session
-  pub lines : List (List Call)
-  pub history : List Event
-  -- the operations of the device
-  pub count : ℕ
-  -- the session that holds the lock of each inode
-  pub locks : List (Option ℕ)
-  -- whether a write or barrier has failed in this mount
-  pub disabled : Bool
-
-abbrev pub standing_in : CoreView → ℕ → Standing
-standing_in v session = standing v.lines v.history session
-
-abbrev pub AllFinished : CoreView → Type 0
-AllFinished v = (session : ℕ) → session < length v.lines → standing_in v session ≡ finished
 
 -- ---- turns
 
@@ -60,10 +44,7 @@ IsStuck v actor (Blocked (Lock ino holder)) = (standing_in v actor ≡ ready) ×
 -- a session went on with its line
 pub record GoesOn (old : CoreView) (actor : ℕ) (new : CoreView) : Type 0 where
   pub was_ready : standing_in old actor ≡ ready
-  pub turn : IsTurn old.lines actor old.history old.count new.history new.count
-  -- at most one stage of the device, which is at most eight operations
-  pub stage : new.count ≤ old.count + 8
-  pub same_lines : new.lines ≡ old.lines
+  pub turn : IsTurn old actor new
 
 -- what a turn of a session does; where it does nothing, why
 abbrev pub TakesTurn : CoreView → ℕ → Turn → CoreView → Type 0
@@ -81,7 +62,7 @@ pub record CanGoOn (v : CoreView) : Type 0 where
 
 -- one turn of each of these sessions
 pub record TakesTurns (old : CoreView) (actors : List ℕ) (new : CoreView) : Type 0 where
-  pub steps : Steps old.lines old.history old.count actors new.history new.count
+  pub steps : Steps old actors new
   pub same_lines : new.lines ≡ old.lines
 
 -- The turns of a schedule, and then all sessions round and round until all are finished. A finished session's turns do nothing, so
@@ -100,7 +81,7 @@ is_end _ = false
 
 -- nothing is left to do: the history ends with Stopped or Unmounted, or the mount is disabled
 unfoldable pub has_ended : CoreView → Bool
-has_ended v = is_end (slice_get v.history (length v.history - 1)) || v.disabled
+has_ended v = is_end (slice_get v.history (length v.history - 1)) || is_some v.disabled
 
 -- the Do is none of the unmount, or closes an earlier session's handle or a lower one of this session
 abbrev pub ClosesBefore : (session handle : ℕ) → Event → Type 0
@@ -128,13 +109,24 @@ pub record UnmountsOn (old new : CoreView) : Type 0 where
   pub onward : old.count ≤ new.count
   pub inside : All (λ e. (old.count ≤ at_of e) × (at_of e ≤ new.count)) events
   pub same_lines : new.lines ≡ old.lines
+  pub same_logging : new.logging ≡ old.logging
+  -- a failed write disables the mount
+  pub failing : HasFailed old.disabled new.disabled old.count new.count old.write_faults new.write_faults
   pub still : AllFinished new
 
+-- the unmount went on by at most one stage of the device
+pub record IsUnmountTurn (old new : CoreView) : Type 0 where
+  pub goes_on : has_ended old ≡ false
+  pub on : UnmountsOn old new
+  pub few : new.count ≤ old.count + stage_operations
+
 abbrev pub TakesUnmountTurn : CoreView → Turn → CoreView → Type 0
-TakesUnmountTurn old Turned new = (has_ended old ≡ false) × UnmountsOn old new
+TakesUnmountTurn old Turned new = IsUnmountTurn old new
 TakesUnmountTurn old Finished new = (has_ended old ≡ true) × (new ≡ old)
 TakesUnmountTurn old (Blocked why) new = ⊥
 
+-- Nothing is left to do. Where the run had ended already, by a stop or in a disabled mount, nothing was done.
 pub record IsUnmounted (old new : CoreView) : Type 0 where
   pub on : UnmountsOn old new
   pub ended : has_ended new ≡ true
+  pub nothing : has_ended old ≡ true → new ≡ old

@@ -1,15 +1,20 @@
 -- What one turn of a session adds to the history.
-use Rattle.std.specs.Prelude.{◌≡◌, ◌≢◌, ◌⊎◌, ℕ, ◌+◌, ◌-◌, ◌≤◌, Bool, true, false, not, ◌||◌, List, [], ◌∷◌, ◌++◌, All, length, slice_get, Option, Some, None}
+use Rattle.std.specs.Prelude.{◌≡◌, ◌≢◌, ◌⊎◌, ℕ, ◌+◌, ◌-◌, ◌≤◌, Bool, true, false, not, ◌||◌, List, [], ◌∷◌, ◌++◌, All, length, slice_get, Option, Some, None, IsSome}
+use Rattle.std.specs.List.{list_any}
 use Rattle.vx_base.specs.declared.call.Call.{Call}
 use Rattle.vx_base.specs.declared.call.Call.TheVariants as call
 use Rattle.vx_base.specs.declared.event.Event.{Event}
 use Rattle.vx_base.specs.declared.event.Event.TheVariants as event
+use Rattle.vx_base.specs.declared.mode.Logging.{Logging}
+use Rattle.vx_base.specs.declared.mode.Logging.TheVariants as logging
 use Rattle.vx_base.specs.declared.refusal.Refusal.{Refusal}
 use Rattle.vx_base.specs.declared.refusal.Refusal.TheVariants as no
 use Rattle.vx_base.specs.declared.reply.Reply.TheVariants as say
 use Rattle.vx_base.specs.Lines.{line_after}
 use Rattle.vx_model.specs.Legal.{at_of}
+use Rattle.vx_mount.specs.Faults.{EventTellsFault, HasFailed}
 use Rattle.vx_mount.specs.Sessions.{is_call_of, IsDoOf, begun, answered, Standing, finished, waiting, ready, standing}
+use Rattle.vx_mount.specs.Views.{CoreView}
 
 -- the call is the session's, or it was cancelled for the session
 abbrev pub IsOwnOrCancelled : ℕ → List Event → ℕ → Refusal → Type 0
@@ -79,21 +84,58 @@ is_ready ready = true
 unfoldable pub may_rest : List (List Call) → List Event → ℕ → Bool
 may_rest lines history actor = not (is_ready (standing lines history actor)) || may_do_no_more (line_after lines actor (answered actor history))
 
--- one turn of a session leads from a history and a number of operations to others
-pub record IsTurn (lines : List (List Call)) (actor : ℕ) (history : List Event) (count : ℕ) (later_history : List Event) (later_count : ℕ) : Type 0 where
+-- the most operations that one stage of the device does
+abbrev pub stage_operations : ℕ
+stage_operations = 8
+
+abbrev pub is_do : Event → Bool
+is_do (event.Do at session line c reply) = true
+is_do _ = false
+
+-- calls that are answered, in this mode, in the turn that does them: in `delaylog` all but those that are committed first
+abbrev pub is_quiet : Logging → Call → Bool
+is_quiet logging.DelayLog (call.Rename old new) = false
+is_quiet logging.DelayLog (call.Fsync handle) = false
+is_quiet logging.DelayLog call.Sync = false
+is_quiet logging.DelayLog call.Tick = false
+is_quiet logging.DelayLog c = true
+is_quiet mode c = false
+
+abbrev pub is_quiet_do : Logging → Event → Bool
+is_quiet_do mode (event.Do at session line c reply) = is_quiet mode c
+is_quiet_do mode _ = false
+
+-- the session has answered all that it has begun
+abbrev pub HasNoneUnderWay : (actor : ℕ) → List Event → Type 0
+HasNoneUnderWay actor history = begun actor history ≡ answered actor history
+
+-- One turn of a session leads from what a core is to what it is then. The turn has at most one stage of the device.
+pub record IsTurn (old : CoreView) (actor : ℕ) (new : CoreView) : Type 0 where
   pub piece : List Event
-  pub grown : later_history ≡ history ++ piece
-  pub own : IsPiece lines actor history piece
-  pub onward : count ≤ later_count
-  pub inside : All (λ e. (count ≤ at_of e) × (at_of e ≤ later_count)) piece
-  pub rests : piece ≡ [] → later_count ≡ count → may_rest lines history actor ≡ true
+  pub grown : new.history ≡ old.history ++ piece
+  pub own : IsPiece old.lines actor old.history piece
+  pub onward : old.count ≤ new.count
+  pub few : new.count ≤ old.count + stage_operations
+  pub inside : All (λ e. (old.count ≤ at_of e) × (at_of e ≤ new.count)) piece
+  pub rests : piece ≡ [] → new.count ≡ old.count → may_rest old.lines old.history actor ≡ true
   -- the answer of a Stop and its Stopped stand in one turn
-  pub whole : piece ≢ [] → is_stopping later_history ≡ false
+  pub whole : piece ≢ [] → is_stopping new.history ≡ false
   -- a session that is finished or waits for another one does nothing
-  pub still : is_ready (standing lines history actor) ≡ false → (piece ≡ []) × (later_count ≡ count)
+  pub still : is_ready (standing old.lines old.history actor) ≡ false → new ≡ old
+  pub same_lines : new.lines ≡ old.lines
+  pub same_logging : new.logging ≡ old.logging
+  -- a failed write disables the mount
+  pub failing : HasFailed old.disabled new.disabled old.count new.count old.write_faults new.write_faults
+  -- a call is answered WriteFault exactly where a write fails in this turn, and Disabled exactly where one had failed before
+  pub tells : All (EventTellsFault old.disabled new.disabled new.write_faults) piece
+  -- where a write fails, or had failed before, the session's call is answered in this turn
+  pub answers : IsSome new.disabled → new ≢ old → (answered actor new.history ≡ answered actor old.history + 1) × HasNoneUnderWay actor new.history
+  -- a call is done in memory alone, unless a write fails
+  pub in_memory : list_any is_do piece ≡ true → new.disabled ≡ old.disabled → new.count ≡ old.count
+  -- and one that waits for no commit is answered at once
+  pub quiet : list_any (is_quiet_do old.logging) piece ≡ true → HasNoneUnderWay actor new.history
 
 -- one turn of each of these sessions after another
-abbrev pub Steps : List (List Call) → List Event → ℕ → (actors : List ℕ) → List Event → ℕ → Type 0
-Steps lines history count [] later_history later_count = (later_history ≡ history) × (later_count ≡ count)
-Steps lines history count (actor ∷ actors) later_history later_count =
-    (next_history : List Event) × ((next_count : ℕ) × (IsTurn lines actor history count next_history next_count × Steps lines next_history next_count actors later_history later_count))
+abbrev pub Steps : CoreView → (actors : List ℕ) → CoreView → Type 0
+Steps old [] new = new ≡ old
+Steps old (actor ∷ actors) new = (next : CoreView) × (IsTurn old actor next × Steps next actors new)

@@ -1,8 +1,9 @@
 //! Turns by a schedule, and the unmount.
 ghost use Rattle.std.specs.Prelude.{◌≡◌, ◌<◌, ◌≤◌, All, length, true, false};
 ghost use Rattle.vx_grammar.specs.Orders.{below};
-ghost use Rattle.vx_mount.specs.Cores.{Opening, AllFinished, TakesTurns, IsDriven, IsUnmounted};
+ghost use Rattle.vx_mount.specs.Cores.{Opening, TakesTurns, IsDriven, IsUnmounted};
 ghost use Rattle.vx_mount.specs.Runs.{TakesLines, AnswersLines};
+ghost use Rattle.vx_mount.specs.Views.{AllFinished};
 
 use crate::turns::{Turn, Turns};
 use vx_grammar::laws::order_law;
@@ -53,7 +54,8 @@ fn turn_round<T: Turns>(core: &mut T) -> bool
     busy
 }
 
-/// Takes turns of the unmount until nothing is left to do. It returns.
+/// Takes turns of the unmount until nothing is left to do. It returns. Where the run was stopped, or the mount is disabled, it does
+/// nothing.
 pub fn unmount<T: Turns>(core: &mut T)
     requires finished { AllFinished (T.view core.old) }
     requires sound { T.sound core.old }

@@ -27,7 +27,8 @@ impl Turn {
 /// A core whose sessions take turns, by the rules of docs/SESSIONS.md.
 pub trait Turns {
     ghost use Rattle.std.specs.Prelude.{◌≡◌, ◌≢◌, ◌<◌, ℕ, length};
-    ghost use Rattle.vx_mount.specs.Cores.{CoreView, Opening, CanGoOn, TakesTurn, TakesUnmountTurn, AllFinished};
+    ghost use Rattle.vx_mount.specs.Cores.{Opening, CanGoOn, TakesTurn, TakesUnmountTurn};
+    ghost use Rattle.vx_mount.specs.Views.{CoreView, AllFinished};
     ghost use Rattle.vx_mount.specs.declared.turns.Turn.TheVariants.{Turned};
 
     /// What contracts see of a core.

@@ -1,21 +1,25 @@
 -- A run that has ended.
-use Rattle.std.proofs.Common.{◌≡◌, ◌⊎◌, ℕ, ◌≤◌, Bool, true, false, not, ◌&&◌, ◌||◌, List, [], ◌∷◌, length, take, Option, Some, None, Result, Ok, Err, refl, sym, ◌∙◌, ap, subst, inl, inr, arith}
-use Rattle.std.specs.Prelude.{All, IfSome, OnOk, OnErr, is_ok, is_some}
+use Rattle.std.proofs.Common.{◌≡◌, ◌⊎◌, ℕ, ◌<◌, ◌≤◌, Bool, true, false, not, ◌&&◌, ◌||◌, List, [], ◌∷◌, length, take, get_or, Option, Some, None, Result, Ok, Err, refl, sym, ◌∙◌, ap, subst, inl, inr, arith}
+use Rattle.std.specs.Prelude.{All, IfSome, OnOk, OnErr, is_ok, is_some, replicate}
 use Rattle.std.specs.Io.KnownBytes.{Appends}
-use Rattle.std.proofs.lemmas.List.{take_all}
+use Rattle.std.proofs.lemmas.List.{take_all, get_or-replicate, length-replicate}
+use Rattle.std.proofs.lemmas.Option.{slice_get_within, get_or_from_slice_get}
 use Rattle.std.proofs.lemmas.List.Elements.{All-nil, All-cons, All-weaker}
 use Rattle.vx_base.specs.declared.call.Call.{Call}
 use Rattle.vx_base.specs.declared.event.Event.{Event}
 use Rattle.vx_base.specs.declared.event.Event.TheVariants as event
+use Rattle.vx_base.specs.declared.mode.Logging.{Logging}
 use Rattle.vx_base.specs.Faults.{Rose, HasCause}
 use Rattle.vx_dev.specs.Tape as dev
 use Rattle.vx_dev.specs.Moments.{Told}
 use Rattle.vx_model.specs.AllowedLaws.{AllowedLaws}
 use Rattle.vx_model.specs.Legal.{World, Phase, in_use, stopping, stopped, unmounted, Legal, at_of, after, after_all}
 use Rattle.vx_model.specs.Replays.{IsLeft}
-use Rattle.vx_mount.specs.Cores.{CoreView, has_ended, is_end}
+use Rattle.vx_mount.specs.Cores.{has_ended, is_end}
 use Rattle.vx_mount.specs.Sessions.{is_stopped}
+use Rattle.vx_mount.specs.Views.{CoreView}
 use Rattle.vx_core.specs.Facts as core
+use Rattle.vx_core.specs.Facts.{AreFree}
 use Rattle.vx_core.specs.Faults as told
 use Rattle.vx_core.specs.Mounts.{MountView}
 use Rattle.vx_core.specs.Tracks.{IsOnCourse, last_event}
@@ -25,15 +29,27 @@ use Rattle.vx_stage.specs.Leads.{state_at}
 use Rattle.vx_stage.specs.declared.kernel.Job.{Job}
 use Rattle.vx_stage.specs.declared.kernel.Job.TheVariants.{Left}
 use Rattle.vx_stage.specs.declared.kernel.Kernel.{Kernel}
-use Rattle.vx_run.specs.Ends.{Taking, Takes, Setting, first_of, beginning, begun_view, AreInOrder, CameBetween, is_unmounted_phase, is_unmounted}
+use Rattle.vx_run.specs.Ends.{Taking, Takes, Setting, first_of, beginning, free_locks, begun_view, AreInOrder, CameBetween, is_unmounted_phase, is_unmounted}
 
 pub takes_of : {E : Type 0} (t : Taking) (text : List ℕ) (r : Result (Unit {0}) E) → OnOk r (Appends t.before t.now text) → OnErr r (AppendsPrefix t.before t.now text) → HasCause t.faults_before t.faults r → Takes t text (is_ok r)
 takes_of t text (Ok x) ok err cause = (ok, cause.fine)
 takes_of t text (Err e) ok err cause = (err, cause.failed)
 
 -- where the turns begin
-pub begun_is : (s : Setting) (lines : List (List Call)) (v : CoreView) → v.lines ≡ lines → v.history ≡ [] → v.count ≡ first_of s → v.locks ≡ [] → v.disabled ≡ false → v ≡ begun_view s lines
-begun_is s lines v same empty count locks off = λ i. record { lines = same i; history = empty i; count = count i; locks = locks i; disabled = off i }
+pub begun_is : (s : Setting) (mode : Logging) (lines : List (List Call)) (v : CoreView) → v.lines ≡ lines → v.history ≡ [] → v.logging ≡ mode → v.count ≡ first_of s → v.write_faults ≡ s.device.write_faults → v.disabled ≡ None → v.locks ≡ free_locks
+    → v ≡ begun_view s mode lines
+begun_is s mode lines v same empty logging count faults off locks = λ i. record { lines = same i; history = empty i; logging = logging i; count = count i; write_faults = faults i; disabled = off i; locks = locks i }
+
+-- no session holds a lock
+pub none_held : (n : ℕ) (locks : List (Option ℕ)) → locks ≡ replicate n None → AreFree locks
+none_held n locks is ino holder held =
+    let free_lock : Option ℕ = None in
+    let inside : ino < length locks = slice_get_within locks ino (Some holder) held in
+    let long : length locks ≡ n = ap length is ∙ length-replicate n free_lock in
+    let there : get_or locks ino None ≡ Some holder = get_or_from_slice_get locks ino (Some holder) None held in
+    let free : get_or locks ino None ≡ None = ap (λ (l : List (Option ℕ)). get_or l ino None) is ∙ get_or-replicate n ino free_lock free_lock (subst (λ k. ino < k) long inside) in
+    let no_way : free_lock ≡ Some holder = sym free ∙ there in
+    absurd (cc)
 
 -- ---- the moments of a legal history
 
@@ -80,17 +96,17 @@ and_false : (b : Bool) → false ≡ (b && false)
 and_false true = refl
 and_false false = refl
 
-pub disabled_by : (v : MountView) (lists : List (List Call)) → is_end (last_event v.history) ≡ false → has_ended (core.view_of v lists) ≡ true → is_some v.disabled ≡ true
+pub disabled_by : (v : MountView) (lists : List (List Call)) (locks : List (Option ℕ)) → is_end (last_event v.history) ≡ false → has_ended (core.view_of v lists locks) ≡ true → is_some v.disabled ≡ true
 unfolding has_ended
-disabled_by v lists open_end ended = or_false (is_end (last_event v.history)) (is_some v.disabled) open_end ended
+disabled_by v lists locks open_end ended = or_false (is_end (last_event v.history)) (is_some v.disabled) open_end ended
 
-pub ended_by : (o : World) (v : MountView) (lists lines : List (List Call)) (run_stopped : Bool) → IsOnCourse run_stopped lines (after_all o v.history) v.history → (is_end (last_event v.history) ≡ true → v.disabled ≡ None)
-    → has_ended (core.view_of v lists) ≡ true → is_unmounted o v.history ≡ (not (is_some v.disabled) && not (is_stopped v.history))
-ended_by o v lists lines true course end ended =
+pub ended_by : (o : World) (v : MountView) (lists lines : List (List Call)) (locks : List (Option ℕ)) (run_stopped : Bool) → IsOnCourse run_stopped lines (after_all o v.history) v.history → (is_end (last_event v.history) ≡ true → v.disabled ≡ None)
+    → has_ended (core.view_of v lists locks) ≡ true → is_unmounted o v.history ≡ (not (is_some v.disabled) && not (is_stopped v.history))
+ended_by o v lists lines locks true course end ended =
     ap is_unmounted_phase course.phase ∙ and_false (not (is_some v.disabled)) ∙ ap (λ b. not (is_some v.disabled) && not b) (sym course.stops)
-ended_by o v lists lines false (inl runs) end ended =
-    ap is_unmounted_phase runs.phase ∙ ap (λ b. not b && not (is_stopped v.history)) (sym (disabled_by v lists runs.open_end ended))
-ended_by o v lists lines false (inr over) end ended =
+ended_by o v lists lines locks false (inl runs) end ended =
+    ap is_unmounted_phase runs.phase ∙ ap (λ b. not b && not (is_stopped v.history)) (sym (disabled_by v lists locks runs.open_end ended))
+ended_by o v lists lines locks false (inr over) end ended =
     let enabled : v.disabled ≡ None = end over.end in
     ap is_unmounted_phase over.phase ∙ ap (λ b. true && not b) (sym over.runs) ∙ ap (λ (x : Option ℕ). not (is_some x) && not (is_stopped v.history)) (sym enabled)
 

@@ -20,6 +20,7 @@ use Rattle.vx_calls.specs.declared.mount.Mount.{Mount}
 use Rattle.vx_calls.specs.Calls as calls
 use Rattle.vx_calls.specs.Mounts as mounts
 use Rattle.vx_calls.specs.Potentials.{promised, debt, last_events, per_call, HasWorked, HasRaised}
+use Rattle.vx_mount.specs.Faults as turn
 use Rattle.vx_core.specs.Mounts as core
 use Rattle.vx_run.specs.Mounted.{is_leaving, view_of, IsLeftWhole, Keeps, IsBuilt}
 
@@ -125,17 +126,17 @@ failing_by (Err x) room m later d e none ok err cause =
     subst (λ o. core.HasFailed o later.disabled (view_of room m d) (view_of room later e)) (sym none)
     (subst (λ o. core.HasFailed None o (view_of room m d) (view_of room later e)) (sym err) (cause.failed, refl))
 
-same_device : (why : Refusal) → calls.is_of_device why ≡ core.is_of_device why
+same_device : (why : Refusal) → calls.is_of_device why ≡ turn.is_of_device why
 same_device no.ReadFault = refl
 same_device no.WriteFault = refl
 same_device (no.Disabled faults) = refl
 same_device _ = refl
 
-faultless : (answer : Reply) → calls.IsFaultless answer → core.IsFaultless answer
+faultless : (answer : Reply) → calls.IsFaultless answer → turn.IsFaultless answer
 faultless (say.Refused why) is = sym (same_device why) ∙ is
 faultless _ is = tt
 
-pub tells : (before now : Option ℕ) (faults : ℕ) (answer : Reply) → calls.TellsFault before now faults answer → core.TellsFault before now faults answer
+pub tells : (before now : Option ℕ) (faults : ℕ) (answer : Reply) → calls.TellsFault before now faults answer → turn.TellsFault before now faults answer
 tells None None faults answer is = faultless answer is
 tells None (Some n) faults answer is = is
 tells (Some n) now faults answer is = is

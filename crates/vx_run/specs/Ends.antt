@@ -1,5 +1,5 @@
 -- How a run ends, and why.
-use Rattle.std.specs.Prelude.{◌≡◌, ◌⊎◌, ◌<◌, ◌≤◌, ◌+◌, ℕ, Bool, true, false, ◌&&◌, List, [], Option, Some, None, Ok, Err, IfSome, is_some, not, if◌then◌else◌, All}
+use Rattle.std.specs.Prelude.{◌≡◌, ◌⊎◌, ◌<◌, ◌≤◌, ◌+◌, ◌*◌, ℕ, Bool, true, false, ◌&&◌, List, [], Option, Some, None, Ok, Err, IfSome, is_some, not, if◌then◌else◌, All, replicate}
 use Rattle.std.specs.Io.KnownBytes.{Appends}
 use Rattle.vx_base.specs.declared.call.Call.{Call}
 use Rattle.vx_base.specs.declared.event.Event.{Event}
@@ -17,10 +17,13 @@ use Rattle.vx_model.specs.Allowed.{IsAllowed}
 use Rattle.vx_model.specs.Legal.{World, Phase, Legal, opening, unmounted, at_of, after_all}
 use Rattle.vx_model.specs.Replays.{IsLeft}
 use Rattle.vx_model.specs.State.{fresh_of}
-use Rattle.vx_mount.specs.Cores.{CoreView, IsDriven, IsUnmounted}
+use Rattle.vx_mkfs.specs.Formats.{format_operations}
+use Rattle.vx_mount.specs.Cores.{IsDriven, IsUnmounted}
 use Rattle.vx_mount.specs.Runs.{AnswersLines}
 use Rattle.vx_mount.specs.Sessions.{is_stopped}
+use Rattle.vx_mount.specs.Views.{CoreView}
 use Rattle.vx_core.specs.Faults.{TellsNoFault, StopsAt}
+use Rattle.vx_stage.specs.Kernels.{device_size}
 use Rattle.vx_script.specs.Output.{output_of}
 use Rattle.vx_script.specs.Puts.{AppendsPrefix}
 use Rattle.vx_script.specs.Start.{status_of, refused_text}
@@ -43,11 +46,11 @@ new_super = record { log_blocks = 512; units = 1; clean = false }
 
 -- the sectors that it needs
 abbrev pub sectors_needed : ℕ
-sectors_needed = 9220
+sectors_needed = device_size new_super
 
 -- the operations of its format
 abbrev pub format_ops : ℕ
-format_ops = 70
+format_ops = format_operations new_super
 
 -- the device's operations when its history begins
 abbrev pub first_of : Setting → ℕ
@@ -107,24 +110,29 @@ pub record IsUnformatted (s : Setting) (d : dev.State) : Type 0 where
   pub rose : Rose s.device.write_faults d.write_faults
   pub fewer : d.count < first_of s
 
+-- the locks of a new file system's inode numbers, which no session holds
+abbrev pub free_locks : List (Option ℕ)
+free_locks = replicate (128 * new_super.units) None
+
 -- the sessions whose turns come first
 abbrev pub schedule_of : Option (List ℕ) → List ℕ
 schedule_of None = []
 schedule_of (Some actors) = actors
 
-abbrev pub begun_view : Setting → List (List Call) → CoreView
-begun_view s lines = record { lines = lines; history = []; count = first_of s; locks = []; disabled = false }
+abbrev pub begun_view : Setting → Logging → List (List Call) → CoreView
+begun_view s mode lines = record { lines = lines; history = []; logging = mode; count = first_of s; write_faults = s.device.write_faults; disabled = None; locks = free_locks }
 
 -- The turns by the script's schedule, and then of all sessions round and round until all are finished, and those of the unmount lead
 -- to this history.
-pub record IsTaken (s : Setting) (script : Script) (d : dev.State) (disabled : Bool) (history : List Event) : Type 0 where
+pub record IsTaken (s : Setting) (mode : Logging) (script : Script) (d : dev.State) (disabled : Bool) (history : List Event) : Type 0 where
   pub middle : CoreView
-  pub driven : IsDriven (begun_view s script.lines) (schedule_of script.schedule) middle
+  pub driven : IsDriven (begun_view s mode script.lines) (schedule_of script.schedule) middle
   pub end : CoreView
   pub left : IsUnmounted middle end
   pub history_is : end.history ≡ history
   pub count_is : end.count ≡ d.count
-  pub disabled_is : end.disabled ≡ disabled
+  pub write_faults_is : end.write_faults ≡ d.write_faults
+  pub disabled_is : is_some end.disabled ≡ disabled
 
 -- Where the faults of the device are told: nowhere, or one call is answered WriteFault at the operation that failed and all that come
 -- behind it are Disabled; or the fault came in the unmount, which answers no call.
@@ -155,13 +163,12 @@ pub record IsFinished (s : Setting) (d : dev.State) (disabled : Bool) (history :
   pub asks : Asks s mode script
   pub size : sectors_needed ≤ s.device.size
   pub legal : Legal (beginning s) history
-  pub taken : IsTaken s script d disabled history
+  pub taken : IsTaken s mode script d disabled history
   pub answers : AnswersLines script.lines history
   pub ended_by : is_unmounted (beginning s) history ≡ (not disabled && not (is_stopped history))
   pub never_both : disabled ≡ true → is_stopped history ≡ false
-  pub count : Option ℕ
-  pub count_is : disabled ≡ is_some count
-  pub faults : AreInOrder count d history
+  -- by the number of failed writes that disabled the mount in these turns
+  pub faults : AreInOrder taken.end.disabled d history
   pub fine : disabled ≡ false → d.write_faults ≡ s.device.write_faults
   pub rose : disabled ≡ true → Rose s.device.write_faults d.write_faults
   pub formatted : first_of s ≤ d.count

@@ -4,7 +4,7 @@ use Rattle.vx_core.specs.Tracks.{no_session, session_at}
 use Rattle.vx_log.specs.Logs.{fresh_log}
 use Rattle.vx_model.specs.State.{fresh_of}
 use Rattle.vx_model.specs.Touching.{untouched}
-use Rattle.vx_run.specs.Ends.{new_super}
+use Rattle.vx_run.specs.Ends.{new_super, free_locks}
 use Rattle.vx_run.specs.declared.memory.Memory.{Memory}
 use Rattle.vx_txn.specs.Metas.{IsStateOf}
 
@@ -19,5 +19,6 @@ pub record IsMemory (sessions events : ℕ) (m : Memory) : Type 0 where
   pub meta : (sectors : ℕ) → IsStateOf m.meta (fresh_of new_super 1 sectors)
   pub touched : m.touched ≡ untouched
   pub transaction : m.transaction ≡ []
+  pub locks : m.locks ≡ free_locks
   pub count : length m.sessions.items ≡ sessions
   pub each : (s : ℕ) → session_at m.sessions.items s ≡ no_session

@@ -5,12 +5,16 @@ ghost use Rattle.vx_run.specs.Memories.{IsMemory};
 use std::alloc::{AllocError, Global};
 use vx_core::{Session, new_sessions};
 use vx_home::Homes;
+use vx_locks::LockTable;
 use vx_log::{Batch, Log};
 use vx_stage::Room;
 use vx_txn::{Meta, Touched};
 
 /// The blocks of the log of every new file system.
 pub const LOG_BLOCKS: u32 = 512;
+
+/// The inode numbers of every new file system, which has one unit.
+const INODES: u32 = 128;
 
 /// All memory that a run takes before its first write. Calls take more for the metadata that they add.
 #[derive(Drop)]
@@ -20,6 +24,7 @@ pub struct Memory {
     pub touched: Touched,
     pub transaction: Batch,
     pub sessions: Vec<Session>,
+    pub locks: LockTable,
 }
 
 impl Memory {
@@ -39,6 +44,7 @@ impl Memory {
             touched: Touched::new(alloc)?,
             transaction: Batch::new(alloc)?,
             sessions: new_sessions(alloc, sessions)?,
+            locks: LockTable::new(alloc, INODES)?,
         })
     }
 }

@@ -1,6 +1,6 @@
 //! A mount with its device, as a core drives it.
 use std::alloc::Global;
-use vx_base::{Event, LineLists, Reply};
+use vx_base::{Event, History, LineLists, Reply};
 use vx_calls::Mount;
 use vx_core::{Calls, Performed};
 use vx_dev::{BlockDev, DevFault};
@@ -11,6 +11,24 @@ pub struct Mounted<D> {
     pub mount: Mount,
     /// The history has at most so many events.
     pub room: usize,
+}
+
+impl<D: BlockDev> Mounted<D> {
+    ghost use Rattle.std.specs.Prelude.{◌≡◌};
+
+    /// The device and the history, for whoever is done with the mount.
+    pub fn into_parts(self) -> (D, History)
+        ensures device { result.0 ≡ self.dev }
+        ensures history { result.1 ≡ self.mount.kernel.history.items }
+    {
+        let Mounted {
+            dev,
+            mount,
+            room: _,
+        } = self;
+        let kernel = mount.kernel;
+        (dev, History::from_events(kernel.history))
+    }
 }
 
 impl<D: BlockDev> Calls for Mounted<D> {
@@ -65,6 +83,10 @@ impl<D: BlockDev> Calls for Mounted<D> {
 
     fn leave(&mut self) -> Result<bool, DevFault> {
         self.mount.leave(&mut self.dev)
+    }
+
+    fn history(&self) -> &[Event] {
+        self.mount.kernel.history.as_slice()
     }
 
     fn disabled(&self) -> Option<u64> {

@@ -19,9 +19,9 @@ const EXAMPLE: &[u8] = b"sessions 1\n0 create /a 644\n0 list /\n0 create /a 600\
 
 const ONE_CREATE: &[u8] = b"sessions 1\n0 create /a 644\n0 list /\n";
 
-/// Two sessions make names, and the second one removes one of them by a rename.
+/// Two sessions make names and rename them by turns; the last rename replaces a name of the other session.
 const TWO_SESSIONS: &[u8] =
-    b"sessions 2\nschedule 1 1 0 1 0 0 0\n0 create /a 644\n1 create /b 644\n1 create /c 644\n0 create /d 644\n0 create /e 644\n1 create /f 644\n1 after 0 3\n0 create /g 644\n1 create /h 644\n";
+    b"sessions 2\nschedule 1 1 0 1 0 0 0 1 0 0 1 1 1 0\n0 create /a 644\n1 create /b 644\n1 rename /b /c\n0 create /d 644\n0 rename /a /e\n1 create /f 644\n1 after 0 3\n0 create /g 644\n1 rename /f /d\n";
 
 /// What a test looks at.
 #[derive(Drop)]
@@ -157,16 +157,20 @@ fn replayed(image: &Image, s: u64) -> [u8; 512] {
     found
 }
 
-/// Whether the root has a name of this one byte; all names of the test have one.
-fn has_name(image: &Image, name: u8) -> bool {
+/// The set of one letter.
+fn letter(name: u8) -> u32 {
+    1u32.wrapping_shl(u32::from(name))
+}
+
+/// The root's names, of which each has one letter.
+fn names_in(image: &Image) -> u32 {
     let block = replayed(image, 1094);
     let count = number(&block, 0, 2) as usize;
-    block
-        .iter()
-        .skip(9)
-        .step_by(6)
-        .take(count)
-        .any(|byte| *byte == name)
+    let mut names = 0;
+    for name in block.iter().skip(9).step_by(6).take(count) {
+        names = names | letter(*name);
+    }
+    names
 }
 
 // ---- the runs
@@ -341,6 +345,13 @@ const SCHEDULED: &[u8] =
 const SCHEDULED_DONE: &[u8] =
     b"0 1 ok 4\n0 2 ok\n0 3 ok\n1 1 ok 3\n1 2 ok\n1 3 ok 2 b c\ndone calls=6 moves=0 from=0 to=0\n";
 
+/// As many sessions as there may be.
+const SIXTEEN: &[u8] =
+    b"sessions 16\n0 sync\n1 sync\n2 sync\n3 sync\n4 sync\n5 sync\n6 sync\n7 sync\n8 sync\n9 sync\n10 sync\n11 sync\n12 sync\n13 sync\n14 sync\n15 sync\n";
+
+const SIXTEEN_DONE: &[u8] =
+    b"0 1 ok\n1 1 ok\n2 1 ok\n3 1 ok\n4 1 ok\n5 1 ok\n6 1 ok\n7 1 ok\n8 1 ok\n9 1 ok\n10 1 ok\n11 1 ok\n12 1 ok\n13 1 ok\n14 1 ok\n15 1 ok\ndone calls=16 moves=0 from=0 to=0\n";
+
 /// What a stop ends was not committed.
 const STOPPED: &[u8] = b"sessions 1\n0 create /a 644\n0 stop\n0 create /b 644\n";
 
@@ -356,10 +367,16 @@ const TICKED_DONE: &[u8] = b"0 1 ok 3\n0 2 ok\n0 3 ok\nstopped calls=3 moves=0 f
 #[test]
 fn sessions_take_turns(rt: HostRuntime) -> Result<(), Fail> {
     let alloc = rt.alloc();
-    for words in [LOG, DELAYED] {
-        let seen = run_script(&rt, alloc, words, SCHEDULED, SECTORS, &[])?;
+    let rows = [
+        (LOG, SCHEDULED, SCHEDULED_DONE),
+        (DELAYED, SCHEDULED, SCHEDULED_DONE),
+        (LOG, SIXTEEN, SIXTEEN_DONE),
+        (DELAYED, SIXTEEN, SIXTEEN_DONE),
+    ];
+    for (words, script, out) in rows {
+        let seen = run_script(&rt, alloc, words, script, SECTORS, &[])?;
         assert_eq!(rt; seen.status, 0);
-        assert_eq!(rt; seen.out.as_slice(), SCHEDULED_DONE);
+        assert_eq!(rt; seen.out.as_slice(), out);
     }
     // so many operations, and whether each image, and none, has the name
     let rows = [
@@ -388,6 +405,11 @@ const A_FSYNC: &[u8] = b"sessions 1\n0 create /a 644\n0 fsync 1\n";
 
 const BAD_LINE: &[u8] = b"refused 3 BadLine 3\n";
 
+/// One session too many.
+const SEVENTEEN: &[u8] = b"sessions 17\n";
+
+const BAD_SESSIONS: &[u8] = b"refused 3 BadLine 1\n";
+
 const TOO_SMALL: &[u8] = b"refused 2 DeviceTooSmall 9219 9220\n";
 
 const UNREAD: &[u8] = b"refused 7 ScriptFault\n";
@@ -406,6 +428,7 @@ fn ends(rt: HostRuntime) -> Result<(), Fail> {
     let rows = [
         (NO_LINES, SECTORS, NEVER, NEVER, 4096, 0, 72, NOTHING_DONE),
         (A_FSYNC, SECTORS - 1, NEVER, NEVER, 4096, 3, 0, BAD_LINE),
+        (SEVENTEEN, SECTORS, NEVER, NEVER, 4096, 3, 0, BAD_SESSIONS),
         (ONE_CREATE, SECTORS - 1, NEVER, NEVER, 4096, 2, 0, TOO_SMALL),
         (ONE_CREATE, SECTORS, NEVER, 2, 4096, 7, 0, UNREAD),
         (ONE_CREATE, SECTORS, 77, NEVER, 4096, 4, 77, DISABLED),
@@ -432,7 +455,7 @@ fn with_name(alloc: Global, dev: &MemDisk, moment: u64) -> Result<(bool, bool), 
     let mut absent = false;
     for seed in 0..10 {
         if moment <= dev.ops() {
-            if has_name(&pick_image(alloc, dev, moment, seed)?, b'a') {
+            if names_in(&pick_image(alloc, dev, moment, seed)?) & letter(b'a') != 0 {
                 there = true;
             } else {
                 absent = true;
@@ -456,44 +479,78 @@ fn a_create_is_there_from_its_return_on(rt: HostRuntime) -> Result<(), Fail> {
     Ok(())
 }
 
-/// What a crash may leave of a history of creates, after so many operations.
+/// What a crash may leave of a history of creates and renames, after so many operations.
 #[derive(Drop)]
 struct Front {
-    /// The names, in the order of their calls.
-    names: Vec<u8>,
-    /// So many of the calls had begun.
+    /// The names behind so many of the calls.
+    states: Vec<u32>,
+    /// So many of these may be there, since the calls before them had begun.
     begun: usize,
-    /// So many at least are there: a call that had returned, and what came before it.
+    /// So many of these may not, since a call behind them had returned, and was committed before that.
     returned: usize,
 }
 
+/// The letter of a path below the root.
+fn name_of(path: &Bytes) -> u32 {
+    letter(path.as_slice().get(1).copied().unwrap_or(0))
+}
+
+/// The names behind one more call.
+fn names_after(names: u32, call: &Call, reply: &Reply) -> u32 {
+    match (call, reply) {
+        (Call::Create { path, .. }, Reply::Made { .. }) => names | name_of(path),
+        (Call::Rename { old, new }, Reply::Fine) => (names & !name_of(old)) | name_of(new),
+        _ => names,
+    }
+}
+
+/// Whether a call is committed before it returns.
+fn is_committed(words: &[&str], call: &Call) -> bool {
+    match call {
+        Call::Create { .. } => words.len() == LOG.len(),
+        Call::Rename { .. } => true,
+        _ => false,
+    }
+}
+
 /// The front at this moment.
-fn front_at(alloc: Global, history: &History, moment: u64) -> Result<Front, AllocError> {
-    let mut names = Vec::new(alloc);
-    let mut places = Vec::new(alloc);
-    let mut begun = 0;
+fn front_at(
+    alloc: Global,
+    words: &[&str],
+    history: &History,
+    moment: u64,
+) -> Result<Front, AllocError> {
+    let mut states = Vec::new(alloc);
+    let mut committed = Vec::new(alloc);
+    let mut names = 0;
+    let mut begun = 1;
     let mut returned = 0;
+    states.push(names)?;
     for (place, event) in history.as_slice().iter().enumerate() {
         match event {
             Event::Do {
                 at,
-                call: Call::Create { path, .. },
+                call,
+                reply,
                 ..
             } => {
-                names.push(path.as_slice().get(1).copied().unwrap_or(0))?;
-                places.push(place as u64)?;
+                names = names_after(names, call, reply);
+                if is_committed(words, call) {
+                    committed.push((place as u64, states.len()))?;
+                }
+                states.push(names)?;
                 if *at <= moment {
-                    begun = names.len();
+                    begun = states.len();
                 }
             }
             Event::Ret {
                 at,
                 place,
-                answer: Reply::Made { .. },
+                answer: Reply::Made { .. } | Reply::Fine,
             } if *at < moment => {
-                for (index, begins) in places.iter().enumerate() {
-                    if *begins == *place && returned < index + 1 {
-                        returned = index + 1;
+                for (begins, state) in &committed {
+                    if *begins == *place && returned < *state {
+                        returned = *state;
                     }
                 }
             }
@@ -501,37 +558,26 @@ fn front_at(alloc: Global, history: &History, moment: u64) -> Result<Front, Allo
         }
     }
     Ok(Front {
-        names,
+        states,
         begun,
         returned,
     })
 }
 
-/// How many of the names are there, where they are the first of them; else one more than there are.
-fn names_there(image: &Image, names: &[u8]) -> usize {
-    let mut count = 0;
-    let mut gap = false;
-    for (place, name) in names.iter().enumerate() {
-        if has_name(image, *name) {
-            if gap {
-                return names.len() + 1;
-            }
-            count = place + 1;
-        } else {
-            gap = true;
-        }
-    }
-    count
-}
-
-/// Whether the images of the seeds 0 and 1 at this moment have as many names as they may.
-fn is_allowed(alloc: Global, seen: &Seen<MemDisk>, moment: u64) -> Result<bool, Fail> {
-    let front = front_at(alloc, &seen.history, moment)?;
-    for seed in 0..2 {
+/// Whether the images of so many seeds at this moment have the names that they may.
+fn is_allowed(
+    alloc: Global,
+    words: &[&str],
+    seen: &Seen<MemDisk>,
+    moment: u64,
+    seeds: u64,
+) -> Result<bool, Fail> {
+    let front = front_at(alloc, words, &seen.history, moment)?;
+    for seed in 0..seeds {
         if moment <= seen.dev.ops() {
-            let image = pick_image(alloc, &seen.dev, moment, seed)?;
-            let there = names_there(&image, front.names.as_slice());
-            if there < front.returned || there > front.begun {
+            let names = names_in(&pick_image(alloc, &seen.dev, moment, seed)?);
+            let mut allowed = front.states.iter().take(front.begun).skip(front.returned);
+            if !allowed.any(|state| *state == names) {
                 return Ok(false);
             }
         }
@@ -540,18 +586,29 @@ fn is_allowed(alloc: Global, seen: &Seen<MemDisk>, moment: u64) -> Result<bool, 
 }
 
 #[test]
+fn each_image_is_of_a_beginning(rt: HostRuntime) -> Result<(), Fail> {
+    let alloc = rt.alloc();
+    for words in [LOG, DELAYED] {
+        let whole = run_script(&rt, alloc, words, TWO_SESSIONS, SECTORS, &[])?;
+        assert_eq!(rt; whole.status, 0);
+        for moment in FORMAT..=whole.dev.ops() {
+            assert!(rt; is_allowed(alloc, words, &whole, moment, 10)?);
+        }
+    }
+    Ok(())
+}
+
+#[test]
 fn each_operation_may_fail(rt: HostRuntime) -> Result<(), Fail> {
     let alloc = rt.alloc();
-    let whole = run_script(&rt, alloc, LOG, TWO_SESSIONS, SECTORS, &[])?;
-    assert_eq!(rt; whole.status, 0);
-    for moment in FORMAT..=whole.dev.ops() {
-        assert!(rt; is_allowed(alloc, &whole, moment)?);
-    }
-    for failing in FORMAT + 1..=whole.dev.ops() {
-        let seen = run_script(&rt, alloc, LOG, TWO_SESSIONS, SECTORS, &[failing])?;
-        assert_eq!(rt; seen.status, 4);
-        for moment in failing.saturating_sub(4).max(FORMAT)..=seen.dev.ops() {
-            assert!(rt; is_allowed(alloc, &seen, moment)?);
+    for words in [LOG, DELAYED] {
+        let whole = run_script(&rt, alloc, words, TWO_SESSIONS, SECTORS, &[])?;
+        for failing in FORMAT + 1..=whole.dev.ops() {
+            let seen = run_script(&rt, alloc, words, TWO_SESSIONS, SECTORS, &[failing])?;
+            assert_eq!(rt; seen.status, 4);
+            for moment in failing.saturating_sub(1)..=seen.dev.ops() {
+                assert!(rt; is_allowed(alloc, words, &seen, moment, 2)?);
+            }
         }
     }
     Ok(())

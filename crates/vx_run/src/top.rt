@@ -180,7 +180,7 @@ fn mounted<D: BlockDev>(
     };
     let mount = Mount::new(kernel, memory.meta, memory.touched, memory.transaction);
     let mounted = Mounted { dev, mount, room };
-    let mut core = Core::new(alloc, mounted, script.lines, memory.sessions);
+    let mut core = Core::new(alloc, mounted, script.lines, memory.sessions, memory.locks);
     drive(&mut core, actors(&script.schedule));
     unmount(&mut core);
     let Core {
@@ -188,6 +188,7 @@ fn mounted<D: BlockDev>(
         alloc: _,
         lines: _,
         sessions: _,
+        locks: _,
         stopped: _,
     } = core;
     let Mounted {

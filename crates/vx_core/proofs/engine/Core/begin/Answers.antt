@@ -1,5 +1,4 @@
-use Rattle.std.proofs.Common.{◌≡◌, ◌<◌, ◌≤◌, ◌+◌, ◌-◌, ◌&&◌, not, set, [], ◌∷◌, length, length-append, true, false, Option, Some, None, sym, ap, subst, ◌∙◌, arith}
-use Rattle.vx_base.specs.declared.event.Event.TheVariants as event
+use Rattle.std.proofs.Common.{◌≡◌, ◌<◌, ◌≤◌, ◌+◌, ◌-◌, ◌&&◌, not, set, length, true, false, Option, Some, None, sym, ap, subst, ◌∙◌, arith}
 use Rattle.vx_base.specs.declared.reply.Reply.TheVariants as say
 use Rattle.vx_base.specs.Lines.{line_after}
 use Rattle.vx_model.specs.Allowed.{is_refusal}
@@ -69,7 +68,7 @@ returns-in-Again-clause-goes g c =
     let is = ap (λ (w : Option UnderWay). record { answered = n; under_way = w }) c.requires.idle in
     let o = c.requires.sound.0 in
     let f = subst (Facts g.M.Calls.built o (g.M.Calls.kept o core.mount) v core.lines core.sessions.items) c.requires.running c.requires.sound.1 in
-    subst (λ l. GoesOn (view_of v core.lines) s (view_of (g.M.Calls.view c.perform.new.self) l)) (sym c.in-Again.ensures.performed.1) (room_turn laws g.M.Calls.built o (g.M.Calls.kept o core.mount) v core.lines core.sessions.items f s n c.requires.actor is c.requires.ready c.requires.line (g.M.Calls.kept o c.perform.new.self) (g.M.Calls.view c.perform.new.self) (c.perform.ensures.kept o f.keeps (subst (λ m. MayBegin o v s (m + 1)) (sym c.answered_by-answered.ensures) (may_begin laws g.M.Calls.built o (g.M.Calls.kept o core.mount) v core.lines core.sessions.items f s n c.requires.actor is c.requires.ready c.requires.line))) c.in-Again.ensures.performed.0 c.perform.ensures.stage c.perform.ensures.free).goes
+    subst (λ l. GoesOn (view_of v core.lines core.locks) s (view_of (g.M.Calls.view c.perform.new.self) l core.locks)) (sym c.in-Again.ensures.performed.1) ((room_turn laws g.M.Calls.built o (g.M.Calls.kept o core.mount) v core.lines core.sessions.items f s n c.requires.actor is c.requires.ready c.requires.line (g.M.Calls.kept o c.perform.new.self) (g.M.Calls.view c.perform.new.self) (c.perform.ensures.kept o f.keeps (subst (λ m. MayBegin o v s (m + 1)) (sym c.answered_by-answered.ensures) (may_begin laws g.M.Calls.built o (g.M.Calls.kept o core.mount) v core.lines core.sessions.items f s n c.requires.actor is c.requires.ready c.requires.line))) c.in-Again.ensures.performed.0 c.perform.ensures.stage c.perform.ensures.free).goes core.locks)
 
 pub returns-in-Again-clause-kept : goal.returns-in-Again-clause-kept
 returns-in-Again-clause-kept g c =
@@ -99,7 +98,7 @@ returns-then-waits-clause-goes g c =
     let u : UnderWay = record { place = c.in-Done.place; answer = c.in-Done.answer } in
     let with : c.put_under_way.new.self.sessions.items ≡ set core.sessions.items s (record { answered = n; under_way = Some u }) =
     c.put_under_way.ensures.sessions ∙ ap (λ m. set core.sessions.items s (record { answered = m; under_way = Some u })) c.answered_by-answered.ensures in
-    subst (λ x. GoesOn (view_of v core.lines) s (view_of (g.M.Calls.view x.mount) x.lines)) (sym c.put_under_way.ensures.same) (waits_turn laws g.M.Calls.built o (g.M.Calls.kept o core.mount) v core.lines core.sessions.items f s n c.requires.actor is c.requires.ready w c.perform.new.lines c.in-Done.place c.in-Done.answer c.in-Done.commits d c.perform.ensures.stage c.perform.ensures.free (g.M.Calls.kept o c.perform.new.self) (c.perform.ensures.kept o f.keeps (subst (λ m. MayBegin o v s (m + 1)) (sym c.answered_by-answered.ensures) (may_begin laws g.M.Calls.built o (g.M.Calls.kept o core.mount) v core.lines core.sessions.items f s n c.requires.actor is c.requires.ready c.requires.line))) (ap (λ b. c.in-Done.commits && not b) (sym c.is_refusal.ensures) ∙ c.if-waits.true)).goes
+    subst (λ x. GoesOn (view_of v core.lines core.locks) s (view_of (g.M.Calls.view x.mount) x.lines x.locks)) (sym c.put_under_way.ensures.same) ((waits_turn laws g.M.Calls.built o (g.M.Calls.kept o core.mount) v core.lines core.sessions.items f s n c.requires.actor is c.requires.ready w c.perform.new.lines c.in-Done.place c.in-Done.answer c.in-Done.commits d c.perform.ensures.stage c.perform.ensures.free (g.M.Calls.kept o c.perform.new.self) (c.perform.ensures.kept o f.keeps (subst (λ m. MayBegin o v s (m + 1)) (sym c.answered_by-answered.ensures) (may_begin laws g.M.Calls.built o (g.M.Calls.kept o core.mount) v core.lines core.sessions.items f s n c.requires.actor is c.requires.ready c.requires.line))) (ap (λ b. c.in-Done.commits && not b) (sym c.is_refusal.ensures) ∙ c.if-waits.true)).goes core.locks)
 
 pub returns-then-waits-clause-kept : goal.returns-then-waits-clause-kept
 returns-then-waits-clause-kept g c =
@@ -191,7 +190,9 @@ returns-else-ends-clause-goes g c =
     let stop_is = c.is_stop_line-stops.ensures ∙ ap (λ m. is_stop_line (line_after core.lines s m)) c.answered_by-answered.ensures ∙ ap is_stop_line d.line in
     let ends_same = ends_is d.done u.answer ∙ sym (ap (λ b. b && is_fine u.answer) stop_is) ∙ sym (ap (λ b. c.is_stop_line-stops.result && b) c.is_fine.ensures) in
     let lines_same = ap (λ x. x.lines) c.finish.ensures.same ∙ ap (λ x. x.lines) c.put_under_way.ensures.same in
-    subst (λ l. GoesOn (view_of v core.lines) s (view_of fin l)) (sym lines_same) (answered_done_turn laws g.M.Calls.built o (g.M.Calls.kept o core.mount) v core.lines core.sessions.items f s n c.requires.actor is c.requires.ready w c.perform.new.lines c.in-Done.place c.in-Done.answer c.in-Done.commits d c.perform.ensures.stage c.perform.ensures.free (g.M.Calls.kept o c.finish.new.self.mount) fin c.finish.new.self.sessions.items kept_fin (ends_same ∙ c.if-ends.false) ha).goes
+    let locks_same = ap (λ x. x.locks) c.finish.ensures.same ∙ ap (λ x. x.locks) c.put_under_way.ensures.same in
+    subst (λ k. GoesOn (view_of v core.lines core.locks) s (view_of fin c.finish.new.self.lines k)) (sym locks_same)
+    (subst (λ l. GoesOn (view_of v core.lines core.locks) s (view_of fin l core.locks)) (sym lines_same) ((answered_done_turn laws g.M.Calls.built o (g.M.Calls.kept o core.mount) v core.lines core.sessions.items f s n c.requires.actor is c.requires.ready w c.perform.new.lines c.in-Done.place c.in-Done.answer c.in-Done.commits d c.perform.ensures.stage c.perform.ensures.free (g.M.Calls.kept o c.finish.new.self.mount) fin c.finish.new.self.sessions.items kept_fin (ends_same ∙ c.if-ends.false) ha).goes core.locks))
 
 pub returns-else-ends-clause-kept : goal.returns-else-ends-clause-kept
 returns-else-ends-clause-kept g c =
@@ -296,7 +297,9 @@ returns-then-ends-clause-goes g c =
     let stop_is = c.is_stop_line-stops.ensures ∙ ap (λ m. is_stop_line (line_after core.lines s m)) c.answered_by-answered.ensures ∙ ap is_stop_line d.line in
     let ends_same = ends_is d.done u.answer ∙ sym (ap (λ b. b && is_fine u.answer) stop_is) ∙ sym (ap (λ b. c.is_stop_line-stops.result && b) c.is_fine.ensures) in
     let lines_same = ap (λ x. x.lines) c.finish.ensures.same ∙ ap (λ x. x.lines) c.put_under_way.ensures.same in
-    subst (λ l. GoesOn (view_of v core.lines) s (view_of (g.M.Calls.view c.stop.new.self) l)) (sym lines_same) (stopped_turn laws g.M.Calls.built o (g.M.Calls.kept o core.mount) v core.lines core.sessions.items f s n c.requires.actor is c.requires.ready w c.perform.new.lines c.in-Done.place c.in-Done.answer c.in-Done.commits d c.perform.ensures.stage c.perform.ensures.free (g.M.Calls.kept o c.stop.new.self) fin (g.M.Calls.view c.stop.new.self) c.finish.new.self.sessions.items (c.stop.ensures.kept o kept_fin (may_stop laws g.M.Calls.built o (g.M.Calls.kept o core.mount) v core.lines core.sessions.items f s n c.requires.actor is c.requires.ready w c.perform.new.lines c.in-Done.place c.in-Done.answer c.in-Done.commits d c.perform.ensures.stage c.perform.ensures.free fin (ends_same ∙ c.if-ends.true) ha.view)) (ends_same ∙ c.if-ends.true) ha c.stop.ensures.view).goes
+    let locks_same = ap (λ x. x.locks) c.finish.ensures.same ∙ ap (λ x. x.locks) c.put_under_way.ensures.same in
+    subst (λ k. GoesOn (view_of v core.lines core.locks) s (view_of (g.M.Calls.view c.stop.new.self) c.finish.new.self.lines k)) (sym locks_same)
+    (subst (λ l. GoesOn (view_of v core.lines core.locks) s (view_of (g.M.Calls.view c.stop.new.self) l core.locks)) (sym lines_same) ((stopped_turn laws g.M.Calls.built o (g.M.Calls.kept o core.mount) v core.lines core.sessions.items f s n c.requires.actor is c.requires.ready w c.perform.new.lines c.in-Done.place c.in-Done.answer c.in-Done.commits d c.perform.ensures.stage c.perform.ensures.free (g.M.Calls.kept o c.stop.new.self) fin (g.M.Calls.view c.stop.new.self) c.finish.new.self.sessions.items (c.stop.ensures.kept o kept_fin (may_stop laws g.M.Calls.built o (g.M.Calls.kept o core.mount) v core.lines core.sessions.items f s n c.requires.actor is c.requires.ready w c.perform.new.lines c.in-Done.place c.in-Done.answer c.in-Done.commits d c.perform.ensures.stage c.perform.ensures.free fin (ends_same ∙ c.if-ends.true) ha.view)) (ends_same ∙ c.if-ends.true) ha c.stop.ensures.view).goes core.locks))
 
 pub returns-then-ends-clause-kept : goal.returns-then-ends-clause-kept
 returns-then-ends-clause-kept g c =
@@ -339,7 +342,7 @@ returns-in-Again-clause-less g c =
     let owed = g.M.Calls.owed core.mount in
     let per = g.M.Calls.per_call in
     let goes = returns-in-Again-clause-goes g c in
-    subst (λ l. work_of per (g.M.Calls.owed c.perform.new.self) l core.sessions.items < work_of per owed lines core.sessions.items) (sym goes.same_lines)
+    subst (λ l. work_of per (g.M.Calls.owed c.perform.new.self) l core.sessions.items < work_of per owed lines core.sessions.items) (sym goes.turn.same_lines)
     (work_staged per lines core.sessions.items owed (g.M.Calls.owed c.perform.new.self) c.in-Again.ensures.owed)
 
 pub returns-then-waits-clause-less : goal.returns-then-waits-clause-less
@@ -365,7 +368,7 @@ returns-then-waits-clause-less g c =
     let pm = ap (λ x. x.mount) c.put_under_way.ensures.same in
     let begun = work_begun per lines core.sessions.items s n c.requires.actor inside_lines u owed (g.M.Calls.owed c.perform.new.self) is (begin_inside laws g.M.Calls.built o (g.M.Calls.kept o core.mount) v core.lines core.sessions.items f s n c.requires.actor is c.requires.ready c.requires.line) c.in-Done.ensures.owed in
     let goes = returns-then-waits-clause-goes g c in
-    subst (λ l. work_of per (g.M.Calls.owed c.put_under_way.new.self.mount) l c.put_under_way.new.self.sessions.items < work_of per owed lines core.sessions.items) (sym goes.same_lines)
+    subst (λ l. work_of per (g.M.Calls.owed c.put_under_way.new.self.mount) l c.put_under_way.new.self.sessions.items < work_of per owed lines core.sessions.items) (sym goes.turn.same_lines)
     (subst (λ ss. work_of per (g.M.Calls.owed c.put_under_way.new.self.mount) lines ss < work_of per owed lines core.sessions.items) (sym with)
     (subst (λ m. work_of per (g.M.Calls.owed m) lines with_call < work_of per owed lines core.sessions.items) (sym pm) begun))
 
@@ -401,7 +404,7 @@ returns-else-ends-clause-less g c =
     let with_inside : s < length with_call = subst (λ k. s < k) (sym (length-set core.sessions.items s (record { answered = n; under_way = Some u }))) c.requires.actor in
     let goes = returns-else-ends-clause-goes g c in
     let answered = work_answered per lines with_call s n with_inside inside_lines u (g.M.Calls.owed c.perform.new.self) (g.M.Calls.owed c.finish.new.self.mount) here (omega (arith, fewer)) in
-    subst (λ l. work_of per (g.M.Calls.owed c.finish.new.self.mount) l c.finish.new.self.sessions.items < work_of per owed lines core.sessions.items) (sym goes.same_lines)
+    subst (λ l. work_of per (g.M.Calls.owed c.finish.new.self.mount) l c.finish.new.self.sessions.items < work_of per owed lines core.sessions.items) (sym goes.turn.same_lines)
     (subst (λ ss. work_of per (g.M.Calls.owed c.finish.new.self.mount) lines ss < work_of per owed lines core.sessions.items) (sym ha.later_is) (omega (arith, answered, begun)))
 
 pub returns-then-ends-clause-less : goal.returns-then-ends-clause-less
@@ -436,7 +439,7 @@ returns-then-ends-clause-less g c =
     let with_inside : s < length with_call = subst (λ k. s < k) (sym (length-set core.sessions.items s (record { answered = n; under_way = Some u }))) c.requires.actor in
     let goes = returns-then-ends-clause-goes g c in
     let answered = work_answered per lines with_call s n with_inside inside_lines u (g.M.Calls.owed c.perform.new.self) (g.M.Calls.owed c.stop.new.self) here (omega (arith, fewer, c.stop.ensures.owed)) in
-    subst (λ l. work_of per (g.M.Calls.owed c.stop.new.self) l c.finish.new.self.sessions.items < work_of per owed lines core.sessions.items) (sym goes.same_lines)
+    subst (λ l. work_of per (g.M.Calls.owed c.stop.new.self) l c.finish.new.self.sessions.items < work_of per owed lines core.sessions.items) (sym goes.turn.same_lines)
     (subst (λ ss. work_of per (g.M.Calls.owed c.stop.new.self) lines ss < work_of per owed lines core.sessions.items) (sym ha.later_is) (omega (arith, answered, begun)))
 
 pub perform-requires-clause-room : goal.perform-requires-clause-room
@@ -473,7 +476,7 @@ returns-in-Again-clause-room g c =
     let runs = begin_runs laws g.M.Calls.built o (g.M.Calls.kept o core.mount) v core.lines core.sessions.items f s n c.requires.actor is c.requires.ready c.requires.line in
     let room = room_running v core.lines core.sessions.items runs.open_end c.requires.room in
     let goes = returns-in-Again-clause-goes g c in
-    has_room (g.M.Calls.view c.perform.new.self) c.perform.new.lines lines core.sessions.items goes.same_lines (omega (arith, room, c.in-Again.ensures.performed.0.room))
+    has_room (g.M.Calls.view c.perform.new.self) c.perform.new.lines lines core.sessions.items goes.turn.same_lines (omega (arith, room, c.in-Again.ensures.performed.0.room))
 
 pub returns-then-waits-clause-room : goal.returns-then-waits-clause-room
 returns-then-waits-clause-room g c =
@@ -500,7 +503,7 @@ returns-then-waits-clause-room g c =
     let begun : work_of 2 1 lines with_call + 3 ≤ v.spare = room_begun lines core.sessions.items s n c.requires.actor inside_lines u v.spare is has room in
     let behind : work_of 2 1 lines with_call ≤ w.spare = omega (arith, begun, d.room) in
     let goes = returns-then-waits-clause-goes g c in
-    has_room (g.M.Calls.view c.put_under_way.new.self.mount) c.put_under_way.new.self.lines lines c.put_under_way.new.self.sessions.items goes.same_lines
+    has_room (g.M.Calls.view c.put_under_way.new.self.mount) c.put_under_way.new.self.lines lines c.put_under_way.new.self.sessions.items goes.turn.same_lines
     (subst (λ ss. work_of 2 1 lines ss ≤ (g.M.Calls.view c.put_under_way.new.self.mount).spare) (sym with)
     (subst (λ m. work_of 2 1 lines with_call ≤ (g.M.Calls.view m).spare) (sym pm) behind))
 
@@ -562,7 +565,7 @@ returns-else-ends-clause-room g c =
     let with_inside : s < length with_call = subst (λ k. s < k) (sym (length-set core.sessions.items s (record { answered = n; under_way = Some u }))) c.requires.actor in
     let answered : work_of 2 1 lines (set with_call s (record { answered = n + 1; under_way = None })) + 1 ≤ w.spare = room_answered lines with_call s n with_inside inside_lines u w.spare here behind in
     let goes = returns-else-ends-clause-goes g c in
-    has_room fin c.finish.new.self.lines lines c.finish.new.self.sessions.items goes.same_lines
+    has_room fin c.finish.new.self.lines lines c.finish.new.self.sessions.items goes.turn.same_lines
     (subst (λ ss. work_of 2 1 lines ss ≤ fin.spare) (sym ha.later_is) (subst (λ x. work_of 2 1 lines (set with_call s (record { answered = n + 1; under_way = None })) ≤ x.spare) (sym ha.view) (omega (arith, answered))))
 
 pub stop-requires-clause-room : goal.stop-requires-clause-room
@@ -634,7 +637,7 @@ returns-then-ends-clause-room g c =
     let facts = returns-then-ends-clause-kept g c o c.requires.sound.1 in
     let later = set with_call s (record { answered = n + 1; under_way = None }) in
     let spare : end.spare ≡ w.spare - 1 - 1 = ap (λ (x : MountView). x.spare) c.stop.ensures.view ∙ ap (λ (x : MountView). x.spare - 1) ha.view in
-    room_ended end c.finish.new.self.lines lines c.finish.new.self.sessions.items goes.same_lines facts.course.end
+    room_ended end c.finish.new.self.lines lines c.finish.new.self.sessions.items goes.turn.same_lines facts.course.end
     (subst (λ ss. work_of 2 0 lines ss ≤ end.spare) (sym ha.later_is) (room_more lines later (w.spare - 1) end.spare (omega (arith, answered)) (omega (arith, spare))))
 
 pub returns-in-Again-clause-order : goal.returns-in-Again-clause-order

@@ -1,14 +1,12 @@
 use Rattle.std.proofs.Common.{◌≡◌, ◌<◌, ◌≤◌, ◌+◌, ◌-◌, set, None, length, refl, sym, ap, subst, ◌∙◌, arith}
-use Rattle.vx_base.specs.declared.event.Event.TheVariants as event
 use Rattle.vx_base.specs.declared.refusal.Refusal.TheVariants as no
-use Rattle.vx_base.specs.declared.reply.Reply.TheVariants as say
 use Rattle.vx_mount.specs.Cores.{GoesOn}
 use Rattle.vx_core.specs.Facts.{Facts, view_of}
 use Rattle.vx_core.specs.declared.session.Session.{Session}
 use Rattle.vx_core.specs.Mounts.{MountView}
 use Rattle.vx_core.specs.Tracks.{session_at, IsAnyUnderWay}
 use Rattle.vx_model.specs.Legal.{after_all}
-use Rattle.vx_core.proofs.Ending.{there_is, its_running, its_limit, staged_used, place_inside, may_refuse, may_say, refused_turn, said_turn, waiting_turn, nothing_released, same_stage}
+use Rattle.vx_core.proofs.Ending.{there_is, its_running, its_limit, staged_used, place_inside, may_refuse, may_say, refused_turn, said_turn, waiting_turn, nothing_released, same_stage, tells_refused, tells_failed}
 use Rattle.vx_core.specs.Lines.{script_lines}
 use Rattle.vx_core.specs.Works.{work_of}
 use Rattle.vx_core.proofs.ScriptLines.{length_script}
@@ -124,9 +122,9 @@ returns-in-Some-clause-goes g c =
     let u = there_is core.sessions.items s c.requires.under_way in
     let o = c.requires.sound.0 in
     let f = subst (Facts g.M.Calls.built o (g.M.Calls.kept o core.mount) v core.lines core.sessions.items) c.requires.running c.requires.sound.1 in
-    subst (λ x. GoesOn (view_of v core.lines) s (view_of (g.M.Calls.view x.mount) x.lines)) (sym c.finish.ensures.same) (refused_turn laws g.M.Calls.built o (g.M.Calls.kept o core.mount) v core.lines core.sessions.items f s n u.0 u.1 c.requires.actor (g.M.Calls.kept o c.finish.new.self.mount) v (g.M.Calls.view c.finish.new.self.mount) c.finish.new.self.sessions.items (no.Disabled c.in-Some.write_faults)
+    subst (λ x. GoesOn (view_of v core.lines core.locks) s (view_of (g.M.Calls.view x.mount) x.lines x.locks)) (sym c.finish.ensures.same) ((refused_turn laws g.M.Calls.built o (g.M.Calls.kept o core.mount) v core.lines core.sessions.items f s n u.0 u.1 c.requires.actor (g.M.Calls.kept o c.finish.new.self.mount) v (g.M.Calls.view c.finish.new.self.mount) c.finish.new.self.sessions.items (no.Disabled c.in-Some.write_faults)
     (c.finish.ensures.kept o n u.0 u.1 f.keeps (may_refuse laws g.M.Calls.built o (g.M.Calls.kept o core.mount) v core.lines core.sessions.items f s n u.0 u.1 c.requires.actor v (no.Disabled c.in-Some.write_faults) (nothing_released v.history v.count) (same_stage v) refl))
-    (nothing_released v.history v.count) (same_stage v) c.requires.free (c.finish.ensures.answered n u.0 u.1)).goes
+    (nothing_released v.history v.count) (same_stage v) c.requires.free (tells_refused v.disabled c.in-Some.write_faults v.write_faults (sym c.disabled.ensures ∙ c.in-Some.is)) (c.finish.ensures.answered n u.0 u.1)).goes core.locks)
 
 pub returns-in-Some-clause-kept : goal.returns-in-Some-clause-kept
 returns-in-Some-clause-kept g c =
@@ -141,7 +139,7 @@ returns-in-Some-clause-kept g c =
     subst (λ x. Facts g.M.Calls.built o (g.M.Calls.kept o x.mount) (g.M.Calls.view x.mount) x.lines x.sessions.items x.stopped) (sym c.finish.ensures.same)
     (subst (Facts g.M.Calls.built o (g.M.Calls.kept o c.finish.new.self.mount) (g.M.Calls.view c.finish.new.self.mount) core.lines c.finish.new.self.sessions.items) (sym c.requires.running) (refused_turn laws g.M.Calls.built o (g.M.Calls.kept o core.mount) v core.lines core.sessions.items f s n u.0 u.1 c.requires.actor (g.M.Calls.kept o c.finish.new.self.mount) v (g.M.Calls.view c.finish.new.self.mount) c.finish.new.self.sessions.items (no.Disabled c.in-Some.write_faults)
     (c.finish.ensures.kept o n u.0 u.1 f.keeps (may_refuse laws g.M.Calls.built o (g.M.Calls.kept o core.mount) v core.lines core.sessions.items f s n u.0 u.1 c.requires.actor v (no.Disabled c.in-Some.write_faults) (nothing_released v.history v.count) (same_stage v) refl))
-    (nothing_released v.history v.count) (same_stage v) c.requires.free (c.finish.ensures.answered n u.0 u.1)).facts)
+    (nothing_released v.history v.count) (same_stage v) c.requires.free (tells_refused v.disabled c.in-Some.write_faults v.write_faults (sym c.disabled.ensures ∙ c.in-Some.is)) (c.finish.ensures.answered n u.0 u.1)).facts)
 
 pub returns-then-reached-clause-goes : goal.returns-then-reached-clause-goes
 returns-then-reached-clause-goes g c =
@@ -153,11 +151,11 @@ returns-then-reached-clause-goes g c =
     let u = there_is core.sessions.items s c.requires.under_way in
     let o = c.requires.sound.0 in
     let f = subst (Facts g.M.Calls.built o (g.M.Calls.kept o core.mount) v core.lines core.sessions.items) c.requires.running c.requires.sound.1 in
-    subst (λ x. GoesOn (view_of v core.lines) s (view_of (g.M.Calls.view x.mount) x.lines)) (sym c.finish-then-reached.ensures.same) (said_turn laws g.M.Calls.built o (g.M.Calls.kept o core.mount) v core.lines core.sessions.items f s n u.0 u.1 c.requires.actor (g.M.Calls.kept o c.finish-then-reached.new.self.mount) (g.M.Calls.view c.reach.new.self) (g.M.Calls.view c.finish-then-reached.new.self.mount) c.finish-then-reached.new.self.sessions.items
+    subst (λ x. GoesOn (view_of v core.lines core.locks) s (view_of (g.M.Calls.view x.mount) x.lines x.locks)) (sym c.finish-then-reached.ensures.same) ((said_turn laws g.M.Calls.built o (g.M.Calls.kept o core.mount) v core.lines core.sessions.items f s n u.0 u.1 c.requires.actor (g.M.Calls.kept o c.finish-then-reached.new.self.mount) (g.M.Calls.view c.reach.new.self) (g.M.Calls.view c.finish-then-reached.new.self.mount) c.finish-then-reached.new.self.sessions.items
     (c.finish-then-reached.ensures.kept o n u.0 u.1 (c.reach.ensures.kept o f.keeps (its_running laws g.M.Calls.built o (g.M.Calls.kept o core.mount) v core.lines core.sessions.items f s n u.0 u.1).phase)
     (may_say laws g.M.Calls.built o (g.M.Calls.kept o core.mount) v core.lines core.sessions.items f s n u.0 u.1 c.requires.actor (g.M.Calls.view c.reach.new.self) c.reach.ensures.history c.reach.ensures.stage
     (subst (λ p. p < (g.M.Calls.view c.reach.new.self).committed) (c.place_under_way-place.ensures u.0 (ap (λ z. z.under_way) u.1)) (c.in-Ok.ensures.durable c.if-reached.true)) c.in-Ok.ensures.enabled))
-    c.reach.ensures.history c.reach.ensures.stage c.reach.ensures.free (c.finish-then-reached.ensures.answered n u.0 u.1)).goes
+    c.reach.ensures.history c.reach.ensures.stage c.reach.ensures.free (sym c.disabled.ensures ∙ c.in_default.is) c.in-Ok.ensures.enabled (c.finish-then-reached.ensures.answered n u.0 u.1)).goes core.locks)
 
 pub returns-then-reached-clause-kept : goal.returns-then-reached-clause-kept
 returns-then-reached-clause-kept g c =
@@ -174,7 +172,7 @@ returns-then-reached-clause-kept g c =
     (c.finish-then-reached.ensures.kept o n u.0 u.1 (c.reach.ensures.kept o f.keeps (its_running laws g.M.Calls.built o (g.M.Calls.kept o core.mount) v core.lines core.sessions.items f s n u.0 u.1).phase)
     (may_say laws g.M.Calls.built o (g.M.Calls.kept o core.mount) v core.lines core.sessions.items f s n u.0 u.1 c.requires.actor (g.M.Calls.view c.reach.new.self) c.reach.ensures.history c.reach.ensures.stage
     (subst (λ p. p < (g.M.Calls.view c.reach.new.self).committed) (c.place_under_way-place.ensures u.0 (ap (λ z. z.under_way) u.1)) (c.in-Ok.ensures.durable c.if-reached.true)) c.in-Ok.ensures.enabled))
-    c.reach.ensures.history c.reach.ensures.stage c.reach.ensures.free (c.finish-then-reached.ensures.answered n u.0 u.1)).facts)
+    c.reach.ensures.history c.reach.ensures.stage c.reach.ensures.free (sym c.disabled.ensures ∙ c.in_default.is) c.in-Ok.ensures.enabled (c.finish-then-reached.ensures.answered n u.0 u.1)).facts)
 
 pub returns-else-reached-clause-goes : goal.returns-else-reached-clause-goes
 returns-else-reached-clause-goes g c =
@@ -186,8 +184,8 @@ returns-else-reached-clause-goes g c =
     let u = there_is core.sessions.items s c.requires.under_way in
     let o = c.requires.sound.0 in
     let f = subst (Facts g.M.Calls.built o (g.M.Calls.kept o core.mount) v core.lines core.sessions.items) c.requires.running c.requires.sound.1 in
-    (waiting_turn laws g.M.Calls.built o (g.M.Calls.kept o core.mount) v core.lines core.sessions.items f s n u.0 u.1 c.requires.actor (g.M.Calls.kept o c.reach.new.self) (g.M.Calls.view c.reach.new.self) (c.reach.ensures.kept o f.keeps (its_running laws g.M.Calls.built o (g.M.Calls.kept o core.mount) v core.lines core.sessions.items f s n u.0 u.1).phase)
-    c.reach.ensures.history (c.in-Ok.ensures.works c.if-reached.false) c.reach.ensures.stage c.reach.ensures.free).goes
+    ((waiting_turn laws g.M.Calls.built o (g.M.Calls.kept o core.mount) v core.lines core.sessions.items f s n u.0 u.1 c.requires.actor (g.M.Calls.kept o c.reach.new.self) (g.M.Calls.view c.reach.new.self) (c.reach.ensures.kept o f.keeps (its_running laws g.M.Calls.built o (g.M.Calls.kept o core.mount) v core.lines core.sessions.items f s n u.0 u.1).phase)
+    c.reach.ensures.history (c.in-Ok.ensures.works c.if-reached.false) c.reach.ensures.stage c.reach.ensures.free c.in-Ok.ensures.enabled).goes core.locks)
 
 pub returns-else-reached-clause-kept : goal.returns-else-reached-clause-kept
 returns-else-reached-clause-kept g c =
@@ -200,7 +198,7 @@ returns-else-reached-clause-kept g c =
     λ o facts.
     let f = subst (Facts g.M.Calls.built o (g.M.Calls.kept o core.mount) v core.lines core.sessions.items) c.requires.running facts in
     subst (Facts g.M.Calls.built o (g.M.Calls.kept o c.reach.new.self) (g.M.Calls.view c.reach.new.self) core.lines core.sessions.items) (sym c.requires.running) (waiting_turn laws g.M.Calls.built o (g.M.Calls.kept o core.mount) v core.lines core.sessions.items f s n u.0 u.1 c.requires.actor (g.M.Calls.kept o c.reach.new.self) (g.M.Calls.view c.reach.new.self) (c.reach.ensures.kept o f.keeps (its_running laws g.M.Calls.built o (g.M.Calls.kept o core.mount) v core.lines core.sessions.items f s n u.0 u.1).phase)
-    c.reach.ensures.history (c.in-Ok.ensures.works c.if-reached.false) c.reach.ensures.stage c.reach.ensures.free).facts
+    c.reach.ensures.history (c.in-Ok.ensures.works c.if-reached.false) c.reach.ensures.stage c.reach.ensures.free c.in-Ok.ensures.enabled).facts
 
 pub returns-in-Err-clause-goes : goal.returns-in-Err-clause-goes
 returns-in-Err-clause-goes g c =
@@ -212,10 +210,10 @@ returns-in-Err-clause-goes g c =
     let u = there_is core.sessions.items s c.requires.under_way in
     let o = c.requires.sound.0 in
     let f = subst (Facts g.M.Calls.built o (g.M.Calls.kept o core.mount) v core.lines core.sessions.items) c.requires.running c.requires.sound.1 in
-    subst (λ x. GoesOn (view_of v core.lines) s (view_of (g.M.Calls.view x.mount) x.lines)) (sym c.finish-in-Err.ensures.same) (refused_turn laws g.M.Calls.built o (g.M.Calls.kept o core.mount) v core.lines core.sessions.items f s n u.0 u.1 c.requires.actor (g.M.Calls.kept o c.finish-in-Err.new.self.mount) (g.M.Calls.view c.reach.new.self) (g.M.Calls.view c.finish-in-Err.new.self.mount) c.finish-in-Err.new.self.sessions.items no.WriteFault
+    subst (λ x. GoesOn (view_of v core.lines core.locks) s (view_of (g.M.Calls.view x.mount) x.lines x.locks)) (sym c.finish-in-Err.ensures.same) ((refused_turn laws g.M.Calls.built o (g.M.Calls.kept o core.mount) v core.lines core.sessions.items f s n u.0 u.1 c.requires.actor (g.M.Calls.kept o c.finish-in-Err.new.self.mount) (g.M.Calls.view c.reach.new.self) (g.M.Calls.view c.finish-in-Err.new.self.mount) c.finish-in-Err.new.self.sessions.items no.WriteFault
     (c.finish-in-Err.ensures.kept o n u.0 u.1 (c.reach.ensures.kept o f.keeps (its_running laws g.M.Calls.built o (g.M.Calls.kept o core.mount) v core.lines core.sessions.items f s n u.0 u.1).phase)
     (may_refuse laws g.M.Calls.built o (g.M.Calls.kept o core.mount) v core.lines core.sessions.items f s n u.0 u.1 c.requires.actor (g.M.Calls.view c.reach.new.self) no.WriteFault c.reach.ensures.history c.reach.ensures.stage refl))
-    c.reach.ensures.history c.reach.ensures.stage c.reach.ensures.free (c.finish-in-Err.ensures.answered n u.0 u.1)).goes
+    c.reach.ensures.history c.reach.ensures.stage c.reach.ensures.free (tells_failed v.disabled (g.M.Calls.view c.reach.new.self).disabled (g.M.Calls.view c.reach.new.self).write_faults (sym c.disabled.ensures ∙ c.in_default.is) c.in-Err.ensures.disabled) (c.finish-in-Err.ensures.answered n u.0 u.1)).goes core.locks)
 
 pub returns-in-Err-clause-kept : goal.returns-in-Err-clause-kept
 returns-in-Err-clause-kept g c =
@@ -231,7 +229,7 @@ returns-in-Err-clause-kept g c =
     (subst (Facts g.M.Calls.built o (g.M.Calls.kept o c.finish-in-Err.new.self.mount) (g.M.Calls.view c.finish-in-Err.new.self.mount) core.lines c.finish-in-Err.new.self.sessions.items) (sym c.requires.running) (refused_turn laws g.M.Calls.built o (g.M.Calls.kept o core.mount) v core.lines core.sessions.items f s n u.0 u.1 c.requires.actor (g.M.Calls.kept o c.finish-in-Err.new.self.mount) (g.M.Calls.view c.reach.new.self) (g.M.Calls.view c.finish-in-Err.new.self.mount) c.finish-in-Err.new.self.sessions.items no.WriteFault
     (c.finish-in-Err.ensures.kept o n u.0 u.1 (c.reach.ensures.kept o f.keeps (its_running laws g.M.Calls.built o (g.M.Calls.kept o core.mount) v core.lines core.sessions.items f s n u.0 u.1).phase)
     (may_refuse laws g.M.Calls.built o (g.M.Calls.kept o core.mount) v core.lines core.sessions.items f s n u.0 u.1 c.requires.actor (g.M.Calls.view c.reach.new.self) no.WriteFault c.reach.ensures.history c.reach.ensures.stage refl))
-    c.reach.ensures.history c.reach.ensures.stage c.reach.ensures.free (c.finish-in-Err.ensures.answered n u.0 u.1)).facts)
+    c.reach.ensures.history c.reach.ensures.stage c.reach.ensures.free (tells_failed v.disabled (g.M.Calls.view c.reach.new.self).disabled (g.M.Calls.view c.reach.new.self).write_faults (sym c.disabled.ensures ∙ c.in_default.is) c.in-Err.ensures.disabled) (c.finish-in-Err.ensures.answered n u.0 u.1)).facts)
 
 pub returns-in-Some-clause-less : goal.returns-in-Some-clause-less
 returns-in-Some-clause-less g c =
@@ -245,7 +243,7 @@ returns-in-Some-clause-less g c =
     let counts = c.requires.sound.1.counts in
     let inside_lines : s < length lines = omega (arith, c.requires.actor) in
     let goes = returns-in-Some-clause-goes g c in
-    subst (λ l. work_of g.M.Calls.per_call (g.M.Calls.owed c.finish.new.self.mount) l c.finish.new.self.sessions.items < work_of g.M.Calls.per_call (g.M.Calls.owed core.mount) lines core.sessions.items) (sym goes.same_lines)
+    subst (λ l. work_of g.M.Calls.per_call (g.M.Calls.owed c.finish.new.self.mount) l c.finish.new.self.sessions.items < work_of g.M.Calls.per_call (g.M.Calls.owed core.mount) lines core.sessions.items) (sym goes.turn.same_lines)
     (subst (λ ss. work_of g.M.Calls.per_call (g.M.Calls.owed c.finish.new.self.mount) lines ss < work_of g.M.Calls.per_call (g.M.Calls.owed core.mount) lines core.sessions.items) (sym (c.finish.ensures.answered n u.0 u.1).later_is)
     (work_answered g.M.Calls.per_call lines core.sessions.items s n c.requires.actor inside_lines u.0 (g.M.Calls.owed core.mount) (g.M.Calls.owed c.finish.new.self.mount) u.1 (omega (arith, c.finish.ensures.owed))))
 
@@ -261,7 +259,7 @@ returns-then-reached-clause-less g c =
     let counts = c.requires.sound.1.counts in
     let inside_lines : s < length lines = omega (arith, c.requires.actor) in
     let goes = returns-then-reached-clause-goes g c in
-    subst (λ l. work_of g.M.Calls.per_call (g.M.Calls.owed c.finish-then-reached.new.self.mount) l c.finish-then-reached.new.self.sessions.items < work_of g.M.Calls.per_call (g.M.Calls.owed core.mount) lines core.sessions.items) (sym goes.same_lines)
+    subst (λ l. work_of g.M.Calls.per_call (g.M.Calls.owed c.finish-then-reached.new.self.mount) l c.finish-then-reached.new.self.sessions.items < work_of g.M.Calls.per_call (g.M.Calls.owed core.mount) lines core.sessions.items) (sym goes.turn.same_lines)
     (subst (λ ss. work_of g.M.Calls.per_call (g.M.Calls.owed c.finish-then-reached.new.self.mount) lines ss < work_of g.M.Calls.per_call (g.M.Calls.owed core.mount) lines core.sessions.items) (sym (c.finish-then-reached.ensures.answered n u.0 u.1).later_is)
     (work_answered g.M.Calls.per_call lines core.sessions.items s n c.requires.actor inside_lines u.0 (g.M.Calls.owed core.mount) (g.M.Calls.owed c.finish-then-reached.new.self.mount) u.1 (omega (arith, c.finish-then-reached.ensures.owed, c.reach.ensures.owed))))
 
@@ -277,7 +275,7 @@ returns-in-Err-clause-less g c =
     let counts = c.requires.sound.1.counts in
     let inside_lines : s < length lines = omega (arith, c.requires.actor) in
     let goes = returns-in-Err-clause-goes g c in
-    subst (λ l. work_of g.M.Calls.per_call (g.M.Calls.owed c.finish-in-Err.new.self.mount) l c.finish-in-Err.new.self.sessions.items < work_of g.M.Calls.per_call (g.M.Calls.owed core.mount) lines core.sessions.items) (sym goes.same_lines)
+    subst (λ l. work_of g.M.Calls.per_call (g.M.Calls.owed c.finish-in-Err.new.self.mount) l c.finish-in-Err.new.self.sessions.items < work_of g.M.Calls.per_call (g.M.Calls.owed core.mount) lines core.sessions.items) (sym goes.turn.same_lines)
     (subst (λ ss. work_of g.M.Calls.per_call (g.M.Calls.owed c.finish-in-Err.new.self.mount) lines ss < work_of g.M.Calls.per_call (g.M.Calls.owed core.mount) lines core.sessions.items) (sym (c.finish-in-Err.ensures.answered n u.0 u.1).later_is)
     (work_answered g.M.Calls.per_call lines core.sessions.items s n c.requires.actor inside_lines u.0 (g.M.Calls.owed core.mount) (g.M.Calls.owed c.finish-in-Err.new.self.mount) u.1 (omega (arith, c.finish-in-Err.ensures.owed, c.reach.ensures.owed))))
 
@@ -287,7 +285,7 @@ returns-else-reached-clause-less g c =
     let v = g.M.Calls.view core.mount in
     let lines = script_lines core.lines v.history in
     let goes = returns-else-reached-clause-goes g c in
-    subst (λ l. work_of g.M.Calls.per_call (g.M.Calls.owed c.reach.new.self) l core.sessions.items < work_of g.M.Calls.per_call (g.M.Calls.owed core.mount) lines core.sessions.items) (sym goes.same_lines)
+    subst (λ l. work_of g.M.Calls.per_call (g.M.Calls.owed c.reach.new.self) l core.sessions.items < work_of g.M.Calls.per_call (g.M.Calls.owed core.mount) lines core.sessions.items) (sym goes.turn.same_lines)
     (work_staged g.M.Calls.per_call lines core.sessions.items (g.M.Calls.owed core.mount) (g.M.Calls.owed c.reach.new.self) (c.in-Ok.ensures.less c.if-reached.false))
 
 pub finish-requires-clause-room : goal.finish-requires-clause-room
@@ -381,7 +379,7 @@ returns-in-Some-clause-room g c =
     let goes = returns-in-Some-clause-goes g c in
     let fin = g.M.Calls.view c.finish.new.self.mount in
     let ha = c.finish.ensures.answered n u.0 u.1 in
-    has_room fin c.finish.new.self.lines lines c.finish.new.self.sessions.items goes.same_lines
+    has_room fin c.finish.new.self.lines lines c.finish.new.self.sessions.items goes.turn.same_lines
     (subst (λ ss. work_of 2 1 lines ss ≤ fin.spare) (sym ha.later_is)
     (let spare : fin.spare ≡ v.spare - 1 = ap (λ (x : MountView). x.spare) ha.view in omega (arith, answered, spare)))
 
@@ -404,7 +402,7 @@ returns-then-reached-clause-room g c =
     let goes = returns-then-reached-clause-goes g c in
     let fin = g.M.Calls.view c.finish-then-reached.new.self.mount in
     let ha = c.finish-then-reached.ensures.answered n u.0 u.1 in
-    has_room fin c.finish-then-reached.new.self.lines lines c.finish-then-reached.new.self.sessions.items goes.same_lines
+    has_room fin c.finish-then-reached.new.self.lines lines c.finish-then-reached.new.self.sessions.items goes.turn.same_lines
     (subst (λ ss. work_of 2 1 lines ss ≤ fin.spare) (sym ha.later_is)
     (let spare : fin.spare ≡ (g.M.Calls.view c.reach.new.self).spare - 1 = ap (λ (x : MountView). x.spare) ha.view in let more = c.reach.ensures.room in omega (arith, answered, spare, more)))
 
@@ -427,7 +425,7 @@ returns-in-Err-clause-room g c =
     let goes = returns-in-Err-clause-goes g c in
     let fin = g.M.Calls.view c.finish-in-Err.new.self.mount in
     let ha = c.finish-in-Err.ensures.answered n u.0 u.1 in
-    has_room fin c.finish-in-Err.new.self.lines lines c.finish-in-Err.new.self.sessions.items goes.same_lines
+    has_room fin c.finish-in-Err.new.self.lines lines c.finish-in-Err.new.self.sessions.items goes.turn.same_lines
     (subst (λ ss. work_of 2 1 lines ss ≤ fin.spare) (sym ha.later_is)
     (let spare : fin.spare ≡ (g.M.Calls.view c.reach.new.self).spare - 1 = ap (λ (x : MountView). x.spare) ha.view in let more = c.reach.ensures.room in omega (arith, answered, spare, more)))
 
@@ -448,7 +446,7 @@ returns-else-reached-clause-room g c =
     let later = set core.sessions.items s (record { answered = n + 1; under_way = None }) in
     let answered : work_of 2 1 lines later + 1 ≤ v.spare = room_answered lines core.sessions.items s n c.requires.actor inside_lines u.0 v.spare u.1 room in
     let goes = returns-else-reached-clause-goes g c in
-    has_room (g.M.Calls.view c.reach.new.self) core.lines lines core.sessions.items goes.same_lines (let more = c.reach.ensures.room in omega (arith, room, more))
+    has_room (g.M.Calls.view c.reach.new.self) core.lines lines core.sessions.items goes.turn.same_lines (let more = c.reach.ensures.room in omega (arith, room, more))
 
 pub returns-in-Some-clause-order : goal.returns-in-Some-clause-order
 returns-in-Some-clause-order g c =

@@ -18,6 +18,7 @@ returns-clause-sound g c = λ o begins keeps.
     let sessions = c.args.sessions.items in
     let v = g.M.Calls.view c.args.mount in
     record {
+      free = c.requires.free;
       world = o.world;
       facts = facts_new lists sessions c.requires.each g.M.Calls.built v c.requires.new c.requires.script c.requires.few c.requires.count o.world (g.M.Calls.kept o.world c.args.mount) begins keeps;
       room = room_new lists sessions c.requires.each g.M.Calls.built v c.requires.new c.requires.script c.requires.few c.requires.count c.requires.room;

@@ -12,13 +12,13 @@ pub returns-then-is_some-clause-turn : goal.returns-then-is_some-clause-turn
 returns-then-is_some-clause-turn g c =
     let core = c.args.self.now in
     let v = g.M.Calls.view core.mount in
-    (ended_disabled v core.lines (ap is_some (sym c.disabled.ensures) ∙ sym c.is_some.ensures ∙ c.if-is_some.true), refl)
+    (ended_disabled v core.lines core.locks (ap is_some (sym c.disabled.ensures) ∙ sym c.is_some.ensures ∙ c.if-is_some.true), refl)
 
 pub returns-then-has_ended-clause-turn : goal.returns-then-has_ended-clause-turn
 returns-then-has_ended-clause-turn g c =
     let core = c.args.self.now in
     let v = g.M.Calls.view core.mount in
-    (ended_last v core.lines (sym c.has_ended.ensures ∙ c.if-has_ended.true), refl)
+    (ended_last v core.lines core.locks (sym c.has_ended.ensures ∙ c.if-has_ended.true), refl)
 
 pub leave-requires-clause-leavable : goal.leave-requires-clause-leavable
 leave-requires-clause-leavable g c =
@@ -40,7 +40,7 @@ returns-in-Ok-clause-turn g c =
     let o = c.requires.sound.0 in
     let r = open_runs g.M.Calls.built o (g.M.Calls.kept o core.mount) v core.lines core.sessions.items core.stopped c.requires.sound.1 open_end in
     let f = subst (Facts g.M.Calls.built o (g.M.Calls.kept o core.mount) v core.lines core.sessions.items) r.0 c.requires.sound.1 in
-    (not_ended v core.lines enabled open_end, unmounts c.growth_laws.ensures g.M.Calls.built o (g.M.Calls.kept o core.mount) v core.lines core.sessions.items f r.1 c.requires.finished (g.M.Calls.view c.leave.new.self) c.leave.ensures.stage c.in-Ok.field-0 c.in-Ok.ensures.history.0 c.in-Ok.ensures.history.1.0 c.in-Ok.ensures.history.1.1)
+    unmounts c.growth_laws.ensures g.M.Calls.built o (g.M.Calls.kept o core.mount) v core.lines core.sessions.items f r.1 c.requires.finished (g.M.Calls.view c.leave.new.self) c.leave.ensures.stage c.in-Ok.field-0 c.in-Ok.ensures.history.0 c.in-Ok.ensures.history.1.0 c.in-Ok.ensures.history.1.1 core.locks (not_ended v core.lines core.locks enabled open_end)
 
 pub returns-in-Ok-clause-kept : goal.returns-in-Ok-clause-kept
 returns-in-Ok-clause-kept g c =
@@ -63,7 +63,7 @@ returns-in-Err-clause-turn g c =
     let o = c.requires.sound.0 in
     let r = open_runs g.M.Calls.built o (g.M.Calls.kept o core.mount) v core.lines core.sessions.items core.stopped c.requires.sound.1 open_end in
     let f = subst (Facts g.M.Calls.built o (g.M.Calls.kept o core.mount) v core.lines core.sessions.items) r.0 c.requires.sound.1 in
-    (not_ended v core.lines enabled open_end, unmounts c.growth_laws.ensures g.M.Calls.built o (g.M.Calls.kept o core.mount) v core.lines core.sessions.items f r.1 c.requires.finished (g.M.Calls.view c.leave.new.self) c.leave.ensures.stage false false 0 (c.in-Err.ensures.still ∙ sym (append-nil v.history)))
+    unmounts c.growth_laws.ensures g.M.Calls.built o (g.M.Calls.kept o core.mount) v core.lines core.sessions.items f r.1 c.requires.finished (g.M.Calls.view c.leave.new.self) c.leave.ensures.stage false false 0 (c.in-Err.ensures.still ∙ sym (append-nil v.history)) core.locks (not_ended v core.lines core.locks enabled open_end)
 
 pub returns-in-Err-clause-kept : goal.returns-in-Err-clause-kept
 returns-in-Err-clause-kept g c =
@@ -82,7 +82,7 @@ returns-in-Ok-clause-less g c = λ _.
     let core = c.args.self.now in
     let lines = script_lines core.lines (g.M.Calls.view core.mount).history in
     let turn = returns-in-Ok-clause-turn g c in
-    subst (λ l. work_of g.M.Calls.per_call (g.M.Calls.owed c.leave.new.self) l core.sessions.items < work_of g.M.Calls.per_call (g.M.Calls.owed core.mount) lines core.sessions.items) (sym turn.1.same_lines)
+    subst (λ l. work_of g.M.Calls.per_call (g.M.Calls.owed c.leave.new.self) l core.sessions.items < work_of g.M.Calls.per_call (g.M.Calls.owed core.mount) lines core.sessions.items) (sym turn.on.same_lines)
     (work_staged g.M.Calls.per_call lines core.sessions.items (g.M.Calls.owed core.mount) (g.M.Calls.owed c.leave.new.self) c.leave.ensures.owed)
 
 pub returns-in-Err-clause-less : goal.returns-in-Err-clause-less
@@ -90,7 +90,7 @@ returns-in-Err-clause-less g c = λ _.
     let core = c.args.self.now in
     let lines = script_lines core.lines (g.M.Calls.view core.mount).history in
     let turn = returns-in-Err-clause-turn g c in
-    subst (λ l. work_of g.M.Calls.per_call (g.M.Calls.owed c.leave.new.self) l core.sessions.items < work_of g.M.Calls.per_call (g.M.Calls.owed core.mount) lines core.sessions.items) (sym turn.1.same_lines)
+    subst (λ l. work_of g.M.Calls.per_call (g.M.Calls.owed c.leave.new.self) l core.sessions.items < work_of g.M.Calls.per_call (g.M.Calls.owed core.mount) lines core.sessions.items) (sym turn.on.same_lines)
     (work_staged g.M.Calls.per_call lines core.sessions.items (g.M.Calls.owed core.mount) (g.M.Calls.owed c.leave.new.self) c.leave.ensures.owed)
 
 pub leave-requires-clause-room : goal.leave-requires-clause-room
@@ -119,7 +119,7 @@ returns-in-Ok-clause-room g c =
     let room = room_running v core.lines core.sessions.items open_end c.requires.room in
     let later = g.M.Calls.view c.leave.new.self in
     let turn = returns-in-Ok-clause-turn g c in
-    room_left v later core.lines lines core.sessions.items c.in-Ok.field-0 c.in-Ok.ensures.history.0 c.in-Ok.ensures.history.1.0 c.growth_laws.ensures c.in-Ok.ensures.history.1.1 turn.1.same_lines c.in-Ok.ensures.room room
+    room_left v later core.lines lines core.sessions.items c.in-Ok.field-0 c.in-Ok.ensures.history.0 c.in-Ok.ensures.history.1.0 c.growth_laws.ensures c.in-Ok.ensures.history.1.1 turn.on.same_lines c.in-Ok.ensures.room room
 
 pub returns-in-Err-clause-room : goal.returns-in-Err-clause-room
 returns-in-Err-clause-room g c =
@@ -134,7 +134,7 @@ returns-in-Err-clause-room g c =
     let room = room_running v core.lines core.sessions.items open_end c.requires.room in
     let later = g.M.Calls.view c.leave.new.self in
     let turn = returns-in-Err-clause-turn g c in
-    has_room later core.lines lines core.sessions.items turn.1.same_lines (let held = c.in-Err.ensures.held in omega (arith, room, held))
+    has_room later core.lines lines core.sessions.items turn.on.same_lines (let held = c.in-Err.ensures.held in omega (arith, room, held))
 
 pub returns-in-Ok-clause-order : goal.returns-in-Ok-clause-order
 returns-in-Ok-clause-order g c =

@@ -1,8 +1,9 @@
-use Rattle.std.proofs.Common.{◌∙◌}
+use Rattle.std.proofs.Common.{sym, subst, ◌∙◌}
+use Rattle.vx_core.specs.Facts.{AreFree}
 use Rattle.vx_core.proofs.turns.CoreTurns.unmount_turn.Goals as goal
 
 pub returns-clause-sound : goal.returns-clause-sound
-returns-clause-sound g c = record { world = c.requires.sound.world; facts = c.take_unmount_turn.ensures.kept c.requires.sound.world c.requires.sound.facts; room = c.take_unmount_turn.ensures.room }
+returns-clause-sound g c = record { free = subst AreFree (sym c.take_unmount_turn.ensures.locks) c.requires.sound.free; world = c.requires.sound.world; facts = c.take_unmount_turn.ensures.kept c.requires.sound.world c.requires.sound.facts; room = c.take_unmount_turn.ensures.room }
 
 pub returns-clause-kept : goal.returns-clause-kept
 returns-clause-kept g c = λ o kept. record { facts = c.take_unmount_turn.ensures.kept o.world kept.facts; order = c.take_unmount_turn.ensures.order o.write_faults kept.order; logging = c.take_unmount_turn.ensures.logging ∙ kept.logging }

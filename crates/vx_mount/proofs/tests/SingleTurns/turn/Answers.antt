@@ -1,6 +1,7 @@
 use Rattle.std.proofs.Common.{◌≡◌, false, Some, refl, sym, subst}
 use Rattle.vx_mount.specs.declared.turns.Turn.TheVariants.{Turned}
-use Rattle.vx_mount.specs.Cores.{TakesTurn, standing_in}
+use Rattle.vx_mount.specs.Cores.{TakesTurn}
+use Rattle.vx_mount.specs.Views.{standing_in}
 use Rattle.vx_mount.specs.Sessions.{finished}
 use Rattle.vx_mount.specs.Singles.{view_of}
 use Rattle.vx_mount.proofs.Single.{answers_line, is_over}

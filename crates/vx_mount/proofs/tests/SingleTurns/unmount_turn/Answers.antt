@@ -1,6 +1,7 @@
 use Rattle.std.proofs.Common.{true, Some, sym, subst, ap, ◌∙◌}
 use Rattle.vx_mount.specs.declared.turns.Turn.TheVariants.{Turned, Finished}
-use Rattle.vx_mount.specs.Cores.{AllFinished, TakesUnmountTurn}
+use Rattle.vx_mount.specs.Cores.{TakesUnmountTurn}
+use Rattle.vx_mount.specs.Views.{AllFinished}
 use Rattle.vx_mount.specs.Singles.{view_of}
 use Rattle.vx_mount.proofs.Single.{not_over, unmounts, is_unmounted}
 use Rattle.vx_mount.proofs.tests.SingleTurns.unmount_turn.Goals as goal
