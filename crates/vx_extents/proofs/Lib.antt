@@ -3,3 +3,7 @@ pub mod Cuts
 pub mod Adds
 pub mod Stretches
 pub mod Limits
+pub mod Removes
+pub mod Kept
+pub mod LongAdds
+pub mod Ranges

@@ -1,7 +1,11 @@
 //! A file's pages, kept as maximal stretches.
-ghost use Rattle.std.specs.Prelude.{◌≡◌, ◌+◌, ◌-◌, ◌*◌, ◌/◌, ◌<◌, ◌≤◌, ◌^◌, max, OnOk, OnErr, Some, None, [], suc, ◌==◌, length, slice_get, filter, nat_lt, vec_capacity};
+ghost use Rattle.std.specs.Prelude.{◌≡◌, ◌+◌, ◌-◌, ◌*◌, ◌/◌, ◌<◌, ◌≤◌, ◌^◌, max, min, OnOk, OnErr, Some, None, [], suc, ◌==◌, length, slice_get, filter, nat_lt, vec_capacity, ◌++◌, is_some, true, get_or, insert, option_map, ℕ};
+ghost use Rattle.vx_base.specs.declared.kind.Kind.{Kind};
 ghost use Rattle.vx_base.specs.declared.geom.Geom.{Geom};
+ghost use Rattle.vx_extents.specs.declared.stretch.Stretch.{Stretch};
 ghost use Rattle.vx_extents.specs.Extents.{extents_limit, file_pages, stretches, chain_len, places, expand, AreMaximal, mapped_at, extent_count, cut_before, begun_before, add_answer, with_add, touches, touches_before, touches_after, same_kind, joined_at, added, IsStretch, AreStretches};
+ghost use Rattle.vx_extents.specs.Uses.{AreAbsent, has_between, with_pages, used_pages, pages_without, data_pages, is_data_kind, removed_at, left_before, piece_after};
+ghost use Rattle.vx_base.specs.declared.kind.Kind.TheVariants.{Data, Reserved};
 
 use crate::stretch::Stretch;
 use std::alloc::{AllocError, Global};
@@ -65,11 +69,36 @@ impl ExtentMap {
         }
     }
 
+    /// No page has a block, with these limits.
+    pub fn with_limits(alloc: Global, limit: u32, page_limit: u32) -> Self
+        requires { limit + 1 < 2 ^ 32 }
+        ensures { result ≡ record { pages = []; reserved = 0; limit = limit; page_limit = page_limit } }
+    {
+        ExtentMap {
+            limit,
+            page_limit,
+            reserved: 0,
+            extents: Vec::new(alloc),
+        }
+    }
+
     /// The block of a page and its kind, if it has one.
     pub fn find(&self, p: Page) -> Option<(Block, Kind)>
         ensures { result ≡ mapped_at self.now.pages p }
     {
+        if p.get() >= self.page_limit {
+            return None;
+        }
         find_in(self.extents.as_slice(), p.get())
+    }
+
+    /// Whether one of so many pages from one on has a block.
+    pub fn has_page(&self, p: Page, n: u32) -> bool
+        requires some { 1 ≤ n }
+        requires fits { p + n < 2 ^ 32 }
+        ensures { result ≡ has_between p (p + n) self.now.pages }
+    {
+        has_between(self.extents.as_slice(), p.get(), p.get() + n)
     }
 
     /// The number of extents, which are the maximal stretches of pages of one kind in consecutive blocks.
@@ -129,11 +158,108 @@ impl ExtentMap {
         Ok(())
     }
 
-    /// Drops every page from `p` on.
-    pub fn cut(&mut self, p: Page)
-        ensures { self.new ≡ record self.old { pages = filter (λ m. nat_lt m.page p) self.old.pages } }
+    /// Gives the page a block, where the map has room for an extent more.
+    pub fn put(&mut self, p: Page, b: Block, kind: Kind)
+        requires within { p < self.old.page_limit }
+        requires absent { mapped_at self.old.pages p ≡ None }
+        requires reserved { 1 ≤ self.old.reserved }
+        requires room { extent_count self.old.pages < self.old.limit }
+        ensures added { self.new ≡ with_add self.old p b kind }
+        ensures count { extent_count self.new.pages ≤ extent_count self.old.pages + 1 }
     {
+        let new = Stretch {
+            page: p,
+            start: b,
+            more: 0,
+            kind,
+        };
+        let at = begun_before(self.extents.as_slice(), p.get());
+        insert_joined(&mut self.extents, at, new);
+        self.reserved -= 1;
+    }
+
+    /// Gives so many pages in a row blocks in a row, where the map has room for an extent more.
+    pub fn put_run(&mut self, p: Page, b: Block, n: u32, kind: Kind)
+        requires some { 1 ≤ n }
+        requires within { p + n ≤ self.old.page_limit }
+        requires blocks { b + n ≤ 2 ^ 32 }
+        requires absent { AreAbsent p n self.old.pages }
+        requires reserved { 1 ≤ self.old.reserved }
+        requires room { extent_count self.old.pages < self.old.limit }
+        ensures added { self.new ≡ record self.old { pages = with_pages n p b kind self.old.pages; reserved = self.old.reserved - 1 } }
+        ensures count { extent_count self.new.pages ≤ extent_count self.old.pages + 1 }
+    {
+        let new = Stretch {
+            page: p,
+            start: b,
+            more: n - 1,
+            kind,
+        };
+        let at = begun_before(self.extents.as_slice(), p.get());
+        insert_joined(&mut self.extents, at, new);
+        self.reserved -= 1;
+    }
+
+    /// Drops a page.
+    pub fn remove(&mut self, p: Page)
+        requires there { is_some (mapped_at self.old.pages p) ≡ true }
+        requires reserved { 1 ≤ self.old.reserved }
+        requires room { extent_count self.old.pages < self.old.limit }
+        ensures removed { self.new ≡ record self.old { pages = pages_without p self.old.pages; reserved = self.old.reserved - 1 } }
+        ensures count { extent_count self.new.pages ≤ extent_count self.old.pages + 1 }
+        ensures absent { mapped_at self.new.pages p ≡ None }
+    {
+        let at = begun_before(self.extents.as_slice(), p.get() + 1) - 1;
+        let before = p.get() - self.extents[at].page.get();
+        remove_page(&mut self.extents, at, before);
+        self.reserved -= 1;
+    }
+
+    /// The page, which has a block, holds data.
+    pub fn use_page(&mut self, p: Page)
+        requires there { is_some (mapped_at self.old.pages p) ≡ true }
+        requires reserved { 2 ≤ self.old.reserved }
+        requires room { extent_count self.old.pages + 2 ≤ self.old.limit }
+        ensures used { self.new ≡ record self.old { pages = used_pages p self.old.pages; reserved = self.old.reserved - 2 } }
+        ensures count { extent_count self.new.pages ≤ extent_count self.old.pages + 2 }
+    {
+        let b = block_in(self.extents.as_slice(), p.get());
+        self.remove(p);
+        self.put(p, b, Kind::Data);
+    }
+
+    /// Has the pages of the other map, for which memory is there, and for so many to be added.
+    pub fn set_from(&mut self, other: &ExtentMap, more: u32)
+        requires memory { extent_count other.now.pages + more ≤ extent_count self.old.pages + self.old.reserved }
+        requires limit { other.now.limit ≤ self.old.limit }
+        requires page_limit { other.now.page_limit ≤ self.old.page_limit }
+        ensures { self.new ≡ record self.old { pages = other.now.pages; reserved = more } }
+    {
+        self.extents.clear();
+        push_all(&mut self.extents, other.extents.as_slice());
+        self.reserved = more;
+    }
+
+    /// Drops every page that is reserved, and keeps the memory for pages to be added.
+    pub fn keep_data(&mut self)
+        ensures pages { self.new ≡ record self.old { pages = data_pages self.old.pages; reserved = self.new.reserved } }
+        ensures count { extent_count self.new.pages ≤ extent_count self.old.pages }
+        ensures memory { self.new.reserved ≡ min (2 ^ 32 - 1) (self.old.reserved + (extent_count self.old.pages - extent_count self.new.pages)) }
+    {
+        let before = self.extents.len();
+        self.extents.retain(|extent| is_data_kind(extent.kind));
+        self.reserved = with_freed(self.reserved, before, self.extents.len());
+    }
+
+    /// Drops every page from `p` on, and keeps the memory for pages to be added.
+    pub fn cut(&mut self, p: Page)
+        ensures cut { self.new ≡ record self.old { pages = filter (λ m. nat_lt m.page p) self.old.pages; reserved = self.new.reserved } }
+        ensures count { extent_count self.new.pages ≤ extent_count self.old.pages }
+        ensures memory { self.new.reserved ≡ min (2 ^ 32 - 1) (self.old.reserved + (extent_count self.old.pages - extent_count self.new.pages)) }
+    {
+        let before = self.extents.len();
         cut_extents(&mut self.extents, p.get());
+        self.reserved = with_freed(self.reserved, before, self.extents.len());
     }
 
     /// Exchanges two maps, with the memory that each has.
@@ -143,6 +269,16 @@ impl ExtentMap {
     {
         mem::swap(self, with);
     }
+}
+
+// How many pages can be added, once there are fewer extents.
+fn with_freed(reserved: u32, before: usize, after: usize) -> u32
+    requires fewer { after ≤ before }
+    requires few { before < 2 ^ 32 }
+    ensures { result ≡ min (2 ^ 32 - 1) (reserved + (before - after)) }
+{
+    let room = reserved as u64 + (before - after) as u64;
+    room.min(u32::MAX as u64) as u32
 }
 
 /// How many map blocks so many extents need in layout 1.
@@ -173,17 +309,130 @@ fn places(geom: &Geom) -> u32
 }
 
 fn find_in(extents: &[Stretch], p: u32) -> Option<(Block, Kind)>
-    requires { AreMaximal extents.now }
+    requires maximal { AreMaximal extents.now }
+    requires few { length extents.now < 2 ^ 32 }
+    requires fits { p + 1 < 2 ^ 32 }
     ensures { result ≡ mapped_at (expand extents.now) p }
 {
-    for extent in extents {
-        let page = extent.page.get();
-        if page <= p && p - page <= extent.more {
-            let block = extent.start.get() + (p - page);
-            return Some((Block::new(block), extent.kind));
-        }
+    let begun = begun_before(extents, p + 1);
+    if begun == 0 {
+        return None;
     }
-    None
+    let extent = extents[begun - 1];
+    let after = p - extent.page.get();
+    if after > extent.more {
+        return None;
+    }
+    let block = extent.start.get() + after;
+    Some((Block::new(block), extent.kind))
+}
+
+// Whether a page from one on and below another has a block.
+fn has_between(extents: &[Stretch], from: u32, to: u32) -> bool
+    requires maximal { AreMaximal extents.now }
+    requires few { length extents.now < 2 ^ 32 }
+    requires some { from < to }
+    ensures { result ≡ has_between from to (expand extents.now) }
+{
+    let begun = begun_before(extents, to);
+    if begun == 0 {
+        return false;
+    }
+    let last = extents[begun - 1];
+    from <= last.page.get() + last.more
+}
+
+// Adds all of these extents, for which there is room.
+fn push_all(extents: &mut Vec<Stretch>, others: &[Stretch])
+    requires room { length extents.old.items + length others.now ≤ vec_capacity extents.old }
+    ensures items { extents.new.items ≡ extents.old.items ++ others.now }
+    ensures capacity { vec_capacity extents.old ≤ vec_capacity extents.new }
+{
+    for other in others {
+        let _ = extents.push(*other);
+    }
+}
+
+fn is_data_kind(kind: Kind) -> bool
+    ensures { result ≡ is_data_kind kind }
+{
+    match kind {
+        Kind::Data => true,
+        Kind::Reserved => false,
+    }
+}
+
+// Drops the page that stands so many from the start of an extent, of which a part may be left on either side.
+fn remove_page(extents: &mut Vec<Stretch>, at: usize, before: u32)
+    requires each { AreStretches extents.old.items }
+    requires bound { at < length extents.old.items }
+    requires inside { (d : Stretch) → before ≤ (get_or extents.old.items at d).more }
+    requires room { length extents.old.items < vec_capacity extents.old }
+    ensures removed { extents.new.items ≡ removed_at at before extents.old.items }
+    ensures capacity { vec_capacity extents.new ≡ vec_capacity extents.old }
+{
+    let extent = extents[at];
+    if before < extent.more {
+        insert_piece(extents, at + 1, piece_after(&extent, before));
+    }
+    leave_before(extents, at, before);
+}
+
+// What is left of an extent after a page.
+fn piece_after(extent: &Stretch, before: u32) -> Stretch
+    requires extent { IsStretch extent.now }
+    requires inside { before < extent.now.more }
+    ensures { result ≡ piece_after before extent.now }
+{
+    Stretch {
+        page: Page::new(extent.page.get() + before + 1),
+        start: Block::new(extent.start.get() + before + 1),
+        more: extent.more - before - 1,
+        kind: extent.kind,
+    }
+}
+
+fn insert_piece(extents: &mut Vec<Stretch>, at: usize, piece: Stretch)
+    requires bound { at ≤ length extents.old.items }
+    requires room { length extents.old.items < vec_capacity extents.old }
+    ensures inserted { extents.new.items ≡ insert extents.old.items at piece }
+    ensures capacity { vec_capacity extents.new ≡ vec_capacity extents.old }
+{
+    match extents.insert(at, piece) {
+        Ok(()) => {}
+        Err(_) => unreachable!(),
+    }
+}
+
+// Leaves only so many pages of an extent, which goes where that is none.
+fn leave_before(extents: &mut Vec<Stretch>, at: usize, before: u32)
+    requires bound { at < length extents.old.items }
+    ensures left { extents.new.items ≡ left_before at before extents.old.items }
+    ensures capacity { vec_capacity extents.new ≡ vec_capacity extents.old }
+{
+    if before == 0 {
+        extents.remove(at);
+    } else {
+        let extent = extents[at];
+        extents[at] = Stretch {
+            more: before - 1,
+            ..extent
+        };
+    }
+}
+
+// The block of a page that has one.
+fn block_in(extents: &[Stretch], p: u32) -> Block
+    requires maximal { AreMaximal extents.now }
+    requires few { length extents.now < 2 ^ 32 }
+    requires fits { p + 1 < 2 ^ 32 }
+    requires there { is_some (mapped_at (expand extents.now) p) ≡ true }
+    ensures { option_map (λ (m : ℕ × Kind). m.0) (mapped_at (expand extents.now) p) ≡ Some result }
+{
+    match find_in(extents, p) {
+        Some(found) => found.0,
+        None => unreachable!(),
+    }
 }
 
 // Drops every page from `p` on. The last extent that begins before it may be left in part.

@@ -1,0 +1,5 @@
+pub mod Files
+pub mod FileMaps
+pub mod Settles
+pub mod GiveLaws
+pub mod RunLaws

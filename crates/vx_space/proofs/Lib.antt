@@ -1,0 +1,10 @@
+mod Chains
+mod FreeRuns
+mod Uses
+mod Grows
+mod Maps
+mod Needed
+mod Parts
+mod Leaves
+mod Written
+mod Closes
