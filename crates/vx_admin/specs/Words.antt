@@ -41,14 +41,21 @@ unfoldable pub number_within : (low high : ℕ) → List ℕ → Option ℕ
 number_within low high word =
     if is_number word && nat_le low (number_of word) && nat_le (number_of word) high then Some (number_of word) else None
 
--- the allocation units of a new file system: 1, where nothing is said of them
+-- what is made where nothing is said of the sizes
+abbrev pub default_units : ℕ
+default_units = 1
+
+abbrev pub default_log_blocks : ℕ
+default_log_blocks = 512
+
+-- the allocation units of a new file system
 abbrev pub units_of : Option Text → Option ℕ
-units_of None = Some 1
+units_of None = Some default_units
 units_of (Some word) = number_within 1 64 word
 
--- the blocks of a new file system's log: 512, where nothing is said of them
+-- the blocks of a new file system's log
 abbrev pub log_blocks_of : Option Text → Option ℕ
-log_blocks_of None = Some 512
+log_blocks_of None = Some default_log_blocks
 log_blocks_of (Some word) = number_within 256 2048 word
 
 -- ---- what is asked
