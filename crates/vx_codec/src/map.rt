@@ -98,15 +98,23 @@ impl From<AllocError> for MapRefusal {
 }
 
 /// The one spelling of a map block of `N` bytes.
-#[tactic(auto, unfolding(vx_layout::specs::Maps::map_bytes))]
 pub fn write_map<const N: usize>(value: &MapValue) -> [u8; N]
     requires size { N ≤ 65536 }
     requires is { IsMap N value.now }
     ensures { result ≡ map_bytes N value.now }
 {
+    write_extents::<N>(value.next(), value.ino(), value.extents())
+}
+
+/// The same, of a map block that has these extents.
+#[tactic(auto, unfolding(vx_layout::specs::Maps::map_bytes))]
+pub fn write_extents<const N: usize>(next: Option<Block>, ino: Ino, extents: &[Extent]) -> [u8; N]
+    requires size { N ≤ 65536 }
+    requires is { IsMap N (record { next = next; ino = ino; extents = extents.now }) }
+    ensures { result ≡ map_bytes N (record { next = next; ino = ino; extents = extents.now }) }
+{
     let mut sheet = Sheet::<N>::new();
-    sheet.put(&head_text(value));
-    let extents = value.extents();
+    sheet.put(&head_text(next, ino, extents));
     for extent in extents {
         sheet.put(&extent_text(*extent));
     }
@@ -189,15 +197,15 @@ fn next_of(number: u32) -> Option<Block>
 }
 
 #[tactic(auto, unfolding(vx_layout::specs::Maps::map_head))]
-fn head_text(value: &MapValue) -> [u8; 16]
-    requires { length value.now.extents < 2 ^ 32 }
-    ensures { result ≡ map_head value.now }
+fn head_text(next: Option<Block>, ino: Ino, extents: &[Extent]) -> [u8; 16]
+    requires { length extents.now < 2 ^ 32 }
+    ensures { result ≡ map_head (record { next = next; ino = ino; extents = extents.now }) }
 {
     let mut sheet = Sheet::<16>::new();
     sheet.put(b"VXMB");
-    sheet.put_u32(number_of_block(value.next()));
-    sheet.put_u32(value.extents().len() as u32);
-    sheet.put_u32(value.ino().get());
+    sheet.put_u32(number_of_block(next));
+    sheet.put_u32(extents.len() as u32);
+    sheet.put_u32(ino.get());
     sheet.finish()
 }
 

@@ -2,6 +2,7 @@
 ghost use Rattle.std.specs.Prelude.{◌≡◌, ◌⊎◌, ◌+◌, ◌^◌, ◌≤◌, ◌<◌, ◌++◌, ◌∷◌, [], length, OnOk, OnErr, IfOk, IsTrue, Err, Some, None, map, slice_get, slice_set};
 ghost use Rattle.std.specs.List.{All, flat_map, sum_by, position_or_len};
 ghost use Rattle.std.specs.List.Sorted.{IsPermutation, IsSorted};
+ghost use Rattle.std.specs.Option.{option_map};
 ghost use Rattle.vx_dir.specs.Directories.{empty, entry_room, entry_count, has_room, block_of, block_at, inode_of, HasDistinctNames, HasShortNames, with_block, blocks_with, with_entry, add_answer, holds, without_entry, without_name, AreNames, by_name, last_place, put_last, packed, IsTightened, IsKept};
 ghost use Rattle.vx_dir.specs.Index.{Indexes};
 ghost use Rattle.vx_dir.specs.Sizes.{used_by, entry_size};
@@ -86,6 +87,13 @@ impl DirBlocks {
         ensures { result ≡ inode_of self.now name.now }
     {
         self.index.find(name).map(|spot| spot.ino)
+    }
+
+    /// The block that holds a name, if the name is there.
+    pub fn block_of(&self, name: &Name) -> Option<u32>
+        ensures { result ≡ option_map (λ ino. block_of name.now self.now.blocks) (inode_of self.now name.now) }
+    {
+        self.index.find(name).map(|spot| spot.block)
     }
 
     /// The block that an entry of this name would go to, or why there is none.

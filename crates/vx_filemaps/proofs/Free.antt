@@ -1,10 +1,10 @@
 -- The map of free blocks after a change, block by block.
-use Rattle.std.proofs.Common.{◌≡◌, ◌≢◌, ℕ, zero, suc, ◌-◌, ◌*◌, ◌%◌, ◌<◌, ◌≤◌, Bool, true, false, not, ◌&&◌, List, [], ◌∷◌, ◌++◌, subst, length, Option, Some, None, refl, sym, ◌∙◌, ap, arith, inl, inr, set, get_or, replicate}
+use Rattle.std.proofs.Common.{◌≡◌, ◌≢◌, ℕ, zero, suc, ◌-◌, ◌*◌, ◌%◌, ◌<◌, ◌≤◌, Bool, true, false, not, ◌&&◌, List, [], ◌∷◌, ◌++◌, subst, length, Option, Some, None, refl, sym, ◌∙◌, ap, arith, inl, inr, set, get_or, replicate, length-set}
 use Rattle.std.specs.Prelude.{is_some}
 use Rattle.std.proofs.lemmas.Bool.{eqb-true, eq-eqb, both_ways, cases_Bool, cases_lt, and_left, and_right, and_parts, and_from, leb-true, ltb-true, lt-leb}
 use Rattle.std.specs.Prelude.{◌==◌}
 use Rattle.vx_space.specs.Placing.{without}
-use Rattle.vx_filemaps.specs.FileMaps.{IsReady, IsTaken}
+use Rattle.vx_filemaps.specs.FileMaps.{HasTaken, IsReady, IsTaken}
 use Rattle.vx_alloc.specs.FreeMaps.{FreeMapView, all_free, is_data, is_free, is_in_set, is_barred, place_of, with_bit, with_place, is_used}
 
 pub at_set : {X : Type 0} (xs : List X) (i : ℕ) (x d : X) → i < length xs → get_or (set xs i x) i d ≡ x
@@ -140,3 +140,13 @@ none_left (x ∷ xs) is = absurd (omega (arith, is))
 
 pub none_taken : (base : FreeMapView) (taken : List ℕ) (v : FreeMapView) → taken ≡ [] → IsTaken base taken v → v ≡ base
 none_taken base taken v none is = subst (λ (bs : List ℕ). IsTaken base bs v) none is
+
+-- whatever was taken
+pub has_taken : (base : FreeMapView) (taken : List ℕ) (v : FreeMapView) → IsTaken base taken v → HasTaken base v
+has_taken base [] v is = subst (HasTaken base) (sym is) (record { rest = refl; bits = refl })
+has_taken base (b ∷ taken) v is =
+    let more = has_taken (with_bit base b false) taken v is.1 in
+    record { rest = more.rest; bits = more.bits ∙ length-set base.free (b - base.first) false }
+
+pub none_has_taken : (base v : FreeMapView) → v ≡ base → HasTaken base v
+none_has_taken base v same = subst (HasTaken base) (sym same) (record { rest = refl; bits = refl })

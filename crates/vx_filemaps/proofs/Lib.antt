@@ -1,6 +1,6 @@
 mod Free
 mod Placing
-mod Pages
+pub mod Pages
 mod Gone
 mod Gives
 mod Runs

@@ -39,6 +39,11 @@ abbrev pub IsTaken : FreeMapView → List ℕ → FreeMapView → Type 0
 IsTaken base [] free = free ≡ base
 IsTaken base (b ∷ taken) free = (is_free base b ≡ true) × IsTaken (with_bit base b false) taken free
 
+-- blocks were taken of the set of free ones, and nothing else has changed
+pub record HasTaken (old new : FreeMapView) : Type 0 where
+  pub rest : new ≡ record old { free = new.free }
+  pub bits : length new.free ≡ length old.free
+
 -- pages were placed: at most so many extents more
 pub record IsPast (n : ℕ) (old new : ExtentMapView) : Type 0 where
   pub limit : new.limit ≡ old.limit

@@ -3,7 +3,7 @@ ghost use Rattle.std.specs.Prelude.{◌≡◌, ◌+◌, ◌^◌, ◌<◌, ◌≤
 ghost use Rattle.vx_alloc.specs.FreeMaps.{FreeMapView};
 ghost use Rattle.vx_extents.specs.Extents.{mapped_at};
 ghost use Rattle.vx_extents.specs.Uses.{data_pages};
-ghost use Rattle.vx_filemaps.specs.FileMaps.{IsReady, IsRefusal, IsRequest, filling_of, volume_in};
+ghost use Rattle.vx_filemaps.specs.FileMaps.{HasTaken, IsReady, IsRefusal, IsRequest, filling_of, volume_in};
 ghost use Rattle.vx_filemaps.specs.Settles.{CanGo, CanWait, none_at, pended, reserved_at, settled_file, surplus_in, without_pages};
 ghost use Rattle.vx_space.specs.Leaving.{cut_space};
 ghost use Rattle.vx_space.specs.Placing.{Request, place_fill};
@@ -137,6 +137,7 @@ impl FileMaps {
         ensures settled { self.new.space ≡ record self.old.space { present = self.new.space.present } }
         ensures ready { IsReady free.new }
         ensures volume { volume_in free.new ≡ volume_in free.old }
+        ensures taken { HasTaken free.old free.new }
         ensures unchanged { OnErr result (self.new ≡ self.old) }
         ensures free { OnErr result (free.new ≡ free.old) }
     {
