@@ -4,3 +4,4 @@ pub mod Volumes
 pub mod Readings
 pub mod Owners
 pub mod Decoding
+pub mod Alike
