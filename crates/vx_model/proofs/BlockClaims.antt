@@ -1,43 +1,46 @@
--- Which blocks the directories have, and how that changes with one directory's blocks.
-use Rattle.std.proofs.Common.{◌≡◌, ◌≢◌, ℕ, zero, suc, ◌*◌, ◌<◌, Bool, true, false, cond, List, [], ◌∷◌, Option, Some, None, refl, sym, ap, subst, ◌∙◌, arith, inl, inr}
-use Rattle.std.specs.Prelude.{◌||◌, ◌==◌, is_some}
+-- Which blocks inodes claim, and how that changes with one inode's blocks.
+use Rattle.std.proofs.Common.{◌≡◌, ◌≢◌, ℕ, zero, suc, ◌+◌, ◌*◌, ◌≤◌, Bool, true, false, cond, List, [], ◌∷◌, ◌++◌, length, take, drop, Option, Some, None, refl, sym, ap, ◌∙◌, arith}
+use Rattle.std.specs.Prelude.{◌||◌, ◌==◌, is_some, slice_get}
 use Rattle.std.specs.Option.{option_map}
-use Rattle.std.proofs.lemmas.Bool.{eq-eqb, ne_eqb, cases_eq, true≢false, false_from_ne_true, or_parts}
-use Rattle.vx_model.specs.Layout.{DirectoryBlock, Layout, Claim, blocks_at, block_numbers, claim_among, or_claim, claim_below, claim_of, with_blocks}
+use Rattle.std.proofs.lemmas.Bool.{eq-eqb, eqb-true, true≢false, or_parts}
+use Rattle.std.proofs.lemmas.List.{append-nil, take_all, length-map}
+use Rattle.vx_base.specs.declared.kind.Kind.TheVariants.{Data}
+use Rattle.vx_extents.specs.Extents.{Mapped, stretches}
+use Rattle.vx_space.specs.Space.{Space, no_space, page_blocks, maps_for}
+use Rattle.vx_model.specs.Layout.{DirectoryBlock, Layout, Claim, Claimed, blocks_at, space_at, maps_at, block_numbers, owned, pages_from, settled_at, settled_maps, chain_of, chain_at, claimed_at, claim_among, or_claim, claim_below, claim_of}
 use Rattle.vx_model.specs.Images.{among}
-use Rattle.vx_model.specs.LaidOut.{HasBlock}
+use Rattle.vx_model.specs.Contents.{settled_of}
+use Rattle.vx_model.proofs.Claims.{claimed, claims_split}
 
 -- ---- numbers in a list
-
-pub one_of : (x y : ℕ) → among (y ∷ []) x ≡ true → x ≡ y
-one_of x y h = elim (cases_eq x y) [
-  | inl e ↦ e
-  | inr ne ↦ absurd (true≢false (sym h ∙ ap (λ t. t || false) (ne_eqb x y ne)))
-]
 
 pub not_first : (x y : ℕ) (ys : List ℕ) → among (y ∷ ys) x ≡ false → x ≢ y
 not_first x y ys h e = true≢false (sym (eq-eqb x y e) ∙ (or_parts (x == y) (among ys x) h).0)
 
--- ---- claims among one directory's blocks
+-- ---- claims among those of one inode
 
-claimed_by : (n b : ℕ) (d : DirectoryBlock) (ds : List DirectoryBlock) (t : Bool) → is_some (claim_among n b ds) ≡ among (block_numbers ds) b
-    → is_some (cond t (Some (record { ino = n; entries = d.entries })) (claim_among n b ds)) ≡ (t || among (block_numbers ds) b)
-claimed_by n b d ds true h = refl
-claimed_by n b d ds false h = h
+-- a claim that is found stands there
+pub record IsFound (n b : ℕ) (x : Claim) (cs : List Claimed) : Type 0 where
+  pub place : ℕ
+  pub found : Claimed
+  pub stands : slice_get cs place ≡ Some found
+  pub block : found.block ≡ b
+  pub claim : x ≡ record { ino = n; form = found.form }
 
--- a block is claimed where it stands among the blocks
-pub claimed : (n b : ℕ) (ds : List DirectoryBlock) → is_some (claim_among n b ds) ≡ among (block_numbers ds) b
-claimed n b [] = refl
-claimed n b (d ∷ ds) = claimed_by n b d ds (b == d.block) (claimed n b ds)
+found_by : (n b : ℕ) (x : Claim) (c : Claimed) (cs : List Claimed) (t : Bool) → (b == c.block) ≡ t → (claim_among n b cs ≡ Some x → IsFound n b x cs)
+    → cond t (Some (record { ino = n; form = c.form })) (claim_among n b cs) ≡ Some x → IsFound n b x (c ∷ cs)
+found_by n b x c cs true is rest h =
+    let e : record { ino = n; form = c.form } ≡ x = cc in
+    record { place = 0; found = c; stands = refl; block = sym (eqb-true b c.block is); claim = sym e }
+found_by n b x c cs false is rest h =
+    let more = rest h in
+    record { place = suc more.place; found = more.found; stands = more.stands; block = more.block; claim = more.claim }
 
-pub none_of : (o : Option Claim) → is_some o ≡ false → o ≡ None
-none_of None h = refl
-none_of (Some c) h = absurd cc
+pub found_among : (n b : ℕ) (x : Claim) (cs : List Claimed) → claim_among n b cs ≡ Some x → IsFound n b x cs
+found_among n b x [] h = absurd cc
+found_among n b x (c ∷ cs) h = found_by n b x c cs (b == c.block) refl (found_among n b x cs) h
 
-pub unclaimed : (n b : ℕ) (ds : List DirectoryBlock) → among (block_numbers ds) b ≡ false → claim_among n b ds ≡ None
-unclaimed n b ds h = none_of (claim_among n b ds) (claimed n b ds ∙ h)
-
--- ---- claims among all directories
+-- ---- claims among all inodes
 
 some_or : (a c : Option Claim) → is_some (or_claim a c) ≡ (is_some a || is_some c)
 some_or None c = refl
@@ -47,85 +50,110 @@ pub some_map : {X : Type 0} (f : Claim → X) (o : Option Claim) → is_some (op
 some_map f None = refl
 some_map f (Some c) = refl
 
-first_claim : (a c : Option Claim) → is_some a ≡ true → or_claim a c ≡ a
-first_claim None c h = absurd cc
-first_claim (Some x) c h = refl
+-- the inode that claims a block
+pub record IsClaim (l : Layout) (b : ℕ) (x : Claim) : Type 0 where
+  pub ino : ℕ
+  pub among : IsFound ino b x (claimed_at l ino)
 
-below : (m n : ℕ) → m < suc n → m ≢ n → m < n
-below m n lt ne = elim (cases_eq m n) [
-  | inl e ↦ absurd (ne e)
-  | inr other ↦ omega (arith, other)
-]
+claim_by : (l : Layout) (b n : ℕ) (x : Claim) (o : Option Claim) → claim_among n b (claimed_at l n) ≡ o → (claim_below l b n ≡ Some x → IsClaim l b x) → or_claim o (claim_below l b n) ≡ Some x → IsClaim l b x
+claim_by l b n x None is rest h = rest h
+claim_by l b n x (Some c) is rest h = record { ino = n; among = found_among n b x (claimed_at l n) (is ∙ h) }
 
-module _ (l : Layout) (b : ℕ) where
-  -- the one directory that has a block claims it
-  pub claim_at : (m : ℕ) → HasBlock l m b → ((k : ℕ) → HasBlock l k b → k ≡ m) → (n : ℕ) → m < n → claim_below l b n ≡ claim_among m b (blocks_at l m)
-  unfolding claim_below
-  claim_at m has one zero lt = absurd (omega arith)
-  claim_at m has one (suc n) lt = elim (cases_eq n m) [
-    | inl e ↦ subst (λ (k : ℕ). or_claim (claim_among k b (blocks_at l k)) (claim_below l b n) ≡ claim_among m b (blocks_at l m)) (sym e)
-        (first_claim (claim_among m b (blocks_at l m)) (claim_below l b n) (claimed m b (blocks_at l m) ∙ has))
-    | inr ne ↦ ap (λ (o : Option Claim). or_claim o (claim_below l b n)) (unclaimed n b (blocks_at l n) (false_from_ne_true _ (λ h. ne (one n h))))
-        ∙ claim_at m has one n (below m n lt (λ e. ne (sym e)))
-  ]
+pub claim_is : (l : Layout) (b : ℕ) (x : Claim) (n : ℕ) → claim_below l b n ≡ Some x → IsClaim l b x
+unfolding claim_below
+claim_is l b x zero h = absurd cc
+claim_is l b x (suc n) h = claim_by l b n x (claim_among n b (claimed_at l n)) refl (claim_is l b x n) h
 
-  -- a block without a claim is of no directory
-  pub claim_none : (n : ℕ) → claim_below l b n ≡ None → (m : ℕ) → m < n → among (block_numbers (blocks_at l m)) b ≡ false
-  unfolding claim_below
-  claim_none zero none m lt = absurd (omega arith)
-  claim_none (suc n) none m lt =
-      let two = or_parts _ _ (sym (some_or (claim_among n b (blocks_at l n)) (claim_below l b n)) ∙ ap (λ (o : Option Claim). is_some o) none) in
-      elim (cases_eq m n) [
-        | inl e ↦ subst (λ (k : ℕ). among (block_numbers (blocks_at l k)) b ≡ false) (sym e) (sym (claimed n b (blocks_at l n)) ∙ two.0)
-        | inr ne ↦ claim_none n (none_of (claim_below l b n) two.1) m (below m n lt ne)
-      ]
-
-  claim_has_by : (n : ℕ) (t : Bool) → among (block_numbers (blocks_at l n)) b ≡ t → (is_some (claim_below l b n) ≡ true → (m : ℕ) × (m < n) × HasBlock l m b)
-      → is_some (or_claim (claim_among n b (blocks_at l n)) (claim_below l b n)) ≡ true → (m : ℕ) × (m < suc n) × HasBlock l m b
-  claim_has_by n true at more h = (n, omega arith, at)
-  claim_has_by n false at more h =
-      let rest = more (sym (ap (λ (o : Option Claim). is_some (or_claim o (claim_below l b n))) (unclaimed n b (blocks_at l n) at)) ∙ h) in
-      let lt = rest.1 in
-      (rest.0, omega arith, rest.2)
-
-  -- a block that is claimed is of some directory
-  pub claim_has : (n : ℕ) → is_some (claim_below l b n) ≡ true → (m : ℕ) × (m < n) × HasBlock l m b
-  unfolding claim_below
-  claim_has zero h = absurd cc
-  claim_has (suc n) h = claim_has_by n _ refl (claim_has n) h
-
--- ---- other blocks at one directory
-
-pub same_at : (l : Layout) (at : ℕ) (blocks : List DirectoryBlock) → blocks_at (with_blocks l at blocks) at ≡ blocks
-same_at l at blocks = ap (λ t. cond t blocks (l.directories at)) (eq-eqb at at refl)
-
-pub other_at : (l : Layout) (at : ℕ) (blocks : List DirectoryBlock) (n : ℕ) → n ≢ at → blocks_at (with_blocks l at blocks) n ≡ blocks_at l n
-other_at l at blocks n ne = ap (λ t. cond t blocks (l.directories n)) (ne_eqb n at ne)
-
-used_below : (l m : Layout) (b : ℕ) → ((n : ℕ) → is_some (claim_among n b (blocks_at m n)) ≡ is_some (claim_among n b (blocks_at l n))) → (n : ℕ) → is_some (claim_below m b n) ≡ is_some (claim_below l b n)
+used_below : (l m : Layout) (b : ℕ) → ((n : ℕ) → is_some (claim_among n b (claimed_at m n)) ≡ is_some (claim_among n b (claimed_at l n))) → (n : ℕ) → is_some (claim_below m b n) ≡ is_some (claim_below l b n)
 unfolding claim_below
 used_below l m b same zero = refl
 used_below l m b same (suc n) =
-    some_or (claim_among n b (blocks_at m n)) (claim_below m b n)
+    some_or (claim_among n b (claimed_at m n)) (claim_below m b n)
     ∙ (λ i. same n i || used_below l m b same n i)
-    ∙ sym (some_or (claim_among n b (blocks_at l n)) (claim_below l b n))
+    ∙ sym (some_or (claim_among n b (claimed_at l n)) (claim_below l b n))
 
--- a block is in use as before where the directory has it as before, and the others are the same
-pub used_same : (l m : Layout) (at b : ℕ) → m.units ≡ l.units → ((n : ℕ) → n ≢ at → blocks_at m n ≡ blocks_at l n)
-    → among (block_numbers (blocks_at m at)) b ≡ among (block_numbers (blocks_at l at)) b → is_some (claim_of m b) ≡ is_some (claim_of l b)
-used_same l m at b units other here =
-    ap (λ u. is_some (claim_below m b (128 * u))) units
-    ∙ used_below l m b (λ n. elim (cases_eq n at) [
-      | inl e ↦ subst (λ (k : ℕ). is_some (claim_among k b (blocks_at m k)) ≡ is_some (claim_among k b (blocks_at l k))) (sym e)
-          (claimed at b (blocks_at m at) ∙ here ∙ sym (claimed at b (blocks_at l at)))
-      | inr ne ↦ ap (λ ds. is_some (claim_among n b ds)) (other n ne)
-    ]) (128 * l.units)
-
-claims_below : (l m : Layout) (b : ℕ) → ((n : ℕ) → blocks_at m n ≡ blocks_at l n) → (n : ℕ) → claim_below m b n ≡ claim_below l b n
+claims_below : (l m : Layout) (b : ℕ) → ((n : ℕ) → claimed_at m n ≡ claimed_at l n) → (n : ℕ) → claim_below m b n ≡ claim_below l b n
 unfolding claim_below
 claims_below l m b same zero = refl
 claims_below l m b same (suc n) = λ i. or_claim (claim_among n b (same n i)) (claims_below l m b same n i)
 
--- directories with the same blocks claim the same
-pub claims_same : (l m : Layout) (b : ℕ) → m.units ≡ l.units → ((n : ℕ) → blocks_at m n ≡ blocks_at l n) → claim_of m b ≡ claim_of l b
+-- inodes with the same claims claim the same
+pub claims_same : (l m : Layout) (b : ℕ) → m.units ≡ l.units → ((n : ℕ) → claimed_at m n ≡ claimed_at l n) → claim_of m b ≡ claim_of l b
 claims_same l m b units same = ap (λ u. claim_below m b (128 * u)) units ∙ claims_below l m b same (128 * l.units)
+
+-- ---- the blocks that an inode claims
+
+-- they don't depend on what stands there
+abbrev pub numbers_claimed : Layout → ℕ → List ℕ
+numbers_claimed l n = block_numbers (blocks_at l n) ++ (page_blocks (space_at l n).settled ++ settled_maps l n)
+
+pub used_same : (l m : Layout) (b : ℕ) → m.units ≡ l.units → ((n : ℕ) → among (numbers_claimed m n) b ≡ among (numbers_claimed l n) b) → is_some (claim_of m b) ≡ is_some (claim_of l b)
+used_same l m b units same =
+    ap (λ u. is_some (claim_below m b (128 * u))) units
+    ∙ used_below l m b (λ n.
+    claimed n b (claimed_at m n) ∙ ap (λ (xs : List ℕ). among xs b) (claims_split m n)
+    ∙ same n
+    ∙ sym (claimed n b (claimed_at l n) ∙ ap (λ (xs : List ℕ). among xs b) (claims_split l n))) (128 * l.units)
+
+-- an inode whose pages are all on the device claims all that it has
+pub record IsWhole (l : Layout) (n : ℕ) : Type 0 where
+  pub space : space_at l n ≡ no_space
+  pub maps : length (maps_at l n) ≡ maps_for (pages_from 0 (blocks_at l n))
+
+pub whole_claims : (l : Layout) (n : ℕ) → IsWhole l n → numbers_claimed l n ≡ owned l n
+whole_claims l n is =
+    let pages : settled_at l n ≡ pages_from 0 (blocks_at l n) = ap (λ (x : Space). pages_from 0 (blocks_at l n) ++ x.settled) is.space ∙ append-nil (pages_from 0 (blocks_at l n)) in
+    let count : maps_for (settled_at l n) ≡ length (maps_at l n) = ap maps_for pages ∙ sym is.maps in
+    let all : settled_maps l n ≡ maps_at l n = ap (λ (k : ℕ). take k (maps_at l n)) count ∙ take_all (length (maps_at l n)) (maps_at l n) (arith_le (length (maps_at l n))) in
+    let none : page_blocks (space_at l n).settled ≡ page_blocks (space_at l n).present = ap (λ (x : Space). page_blocks x.settled) is.space ∙ sym (ap (λ (x : Space). page_blocks x.present) is.space) in
+    λ i. block_numbers (blocks_at l n) ++ (none i ++ all i)
+  where
+    arith_le : (k : ℕ) → k ≤ k
+    arith_le k = omega arith
+
+-- ---- two layouts that have the same blocks of an inode, whatever their entries
+
+pub record HasSame (l m : Layout) (n : ℕ) : Type 0 where
+  pub numbers : block_numbers (blocks_at m n) ≡ block_numbers (blocks_at l n)
+  pub space : space_at m n ≡ space_at l n
+  pub maps : maps_at m n ≡ maps_at l n
+
+abbrev pages_by : ℕ → List ℕ → List Mapped
+pages_by p [] = []
+pages_by p (b ∷ bs) = record { page = p; block = b; kind = Data } ∷ pages_by (suc p) bs
+
+pages_are : (p : ℕ) (ds : List DirectoryBlock) → pages_from p ds ≡ pages_by p (block_numbers ds)
+pages_are p [] = refl
+pages_are p (d ∷ ds) =
+    let next : ◌≡◌ {A = ℕ} (p + 1) (suc p) = omega arith in
+    ap (λ (ms : List Mapped). record { page = p; block = d.block; kind = Data } ∷ ms) (ap (λ (q : ℕ). pages_from q ds) next ∙ pages_are (suc p) ds)
+
+pub pages_same : (p : ℕ) (ds es : List DirectoryBlock) → block_numbers ds ≡ block_numbers es → pages_from p ds ≡ pages_from p es
+pages_same p ds es same = pages_are p ds ∙ ap (pages_by p) same ∙ sym (pages_are p es)
+
+pub same_length : (ds es : List DirectoryBlock) → block_numbers ds ≡ block_numbers es → length ds ≡ length es
+same_length ds es same = sym (length-map ds (λ (d : DirectoryBlock). d.block)) ∙ ap (λ (ns : List ℕ). length ns) same ∙ length-map es (λ (d : DirectoryBlock). d.block)
+
+module _ (l m : Layout) (n : ℕ) (is : HasSame l m n) where
+  pub same_owned : owned m n ≡ owned l n
+  same_owned = λ i. is.numbers i ++ (page_blocks (is.space i).present ++ is.maps i)
+
+  same_pages : pages_from 0 (blocks_at m n) ≡ pages_from 0 (blocks_at l n)
+  same_pages = pages_same 0 (blocks_at m n) (blocks_at l n) is.numbers
+
+  same_settled : settled_at m n ≡ settled_at l n
+  same_settled = λ i. same_pages i ++ (is.space i).settled
+
+  same_maps : settled_maps m n ≡ settled_maps l n
+  same_maps = λ i. take (maps_for (same_settled i)) (is.maps i)
+
+  pub same_chain : chain_at m n ≡ chain_at l n
+  same_chain = λ i. chain_of n (drop 6 (stretches (same_settled i))) (same_maps i)
+
+  pub same_claimed : numbers_claimed m n ≡ numbers_claimed l n
+  same_claimed = λ i. is.numbers i ++ (page_blocks (is.space i).settled ++ same_maps i)
+
+  pub same_held : settled_of m n ≡ settled_of l n
+  same_held =
+      let count = same_length (blocks_at m n) (blocks_at l n) is.numbers in
+      λ i. record { extents = stretches (same_settled i); maps = same_maps i; size = 1024 * count i + (is.space i).size }

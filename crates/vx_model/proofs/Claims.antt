@@ -1,134 +1,214 @@
--- Which directory claims a block: the one that has it.
-use Rattle.std.proofs.Common.{◌≡◌, ◌≢◌, ℕ, zero, suc, ◌*◌, ◌<◌, ◌≤◌, Bool, true, false, cond, List, [], ◌∷◌, Option, Some, None, refl, sym, ap, subst, ◌∙◌, arith, inl, inr}
-use Rattle.std.specs.Prelude.{◌||◌, ◌==◌, is_some, IsTrue}
-use Rattle.std.specs.FinMap as map
-use Rattle.std.proofs.lemmas.Bool.{cases_eq, eq-eqb, eqb-true}
-use Rattle.vx_layout.specs.Places.{is_data}
-use Rattle.vx_layout.specs.Dirs.{IsDir}
-use Rattle.vx_model.specs.Tree.{Node}
-use Rattle.vx_model.specs.Layout.{DirectoryBlock, Layout, Claim, volume, blocks_at, block_numbers, claim_among, or_claim, claim_below, claim_of}
+-- Which inode claims a block: the one that has it.
+use Rattle.std.proofs.Common.{◌≡◌, ◌≢◌, ℕ, zero, suc, ◌+◌, ◌*◌, ◌<◌, ◌≤◌, Bool, true, false, cond, List, [], ◌∷◌, ◌++◌, length, map, take, drop, Option, Some, None, refl, sym, ap, subst, ◌∙◌, arith, inl, inr}
+use Rattle.std.specs.Prelude.{◌||◌, ◌==◌, is_some, slice_get, IsTrue}
+use Rattle.std.specs.FinMap as map_of
+use Rattle.std.proofs.Math.Seq.{take-length}
+use Rattle.std.proofs.lemmas.Bool.{cases_Bool, cases_eq, eq-eqb}
+use Rattle.std.proofs.lemmas.List.{append-nil, append_assoc, map-append}
+use Rattle.vx_base.specs.declared.inode.Extent.{Extent}
+use Rattle.vx_layout.specs.Places.{is_data, block_sector}
+use Rattle.vx_extents.specs.Extents.{Mapped, stretches}
+use Rattle.vx_space.specs.Space.{Space, no_space, page_blocks, maps_for}
+use Rattle.vx_space.specs.Uses.{uses}
+use Rattle.vx_model.specs.Tree.{Node, IsFile, IsDirectory}
+use Rattle.vx_model.specs.Layout.{DirectoryBlock, Layout, Claim, Claimed, volume, blocks_at, space_at, maps_at, block_numbers, owned, is_owned_below, is_owned, pages_from, settled_at, settled_maps, chain_of, chain_at, names_claimed, page_claimed, claimed_at, claim_among, or_claim, claim_below, claim_of}
 use Rattle.vx_model.specs.State.{State}
 use Rattle.vx_model.specs.Images.{among}
-use Rattle.vx_model.specs.LaidOut.{AreBlocks, IsHeld, HasBlock, IsLaidOut}
+use Rattle.vx_model.specs.LaidOut.{HasNothing, IsNodeOf, IsHeld, IsLaidOut, Owns, IsOnceUsed}
+use Rattle.vx_model.proofs.Uses.{one, uses_append, not_among, is_among}
 
--- ---- the blocks of one directory
+abbrev pub claimed_blocks : List Claimed → List ℕ
+claimed_blocks cs = map (λ (c : Claimed). c.block) cs
 
-abbrev claim_by : ℕ → DirectoryBlock → Claim
-claim_by n d = record { ino = n; entries = d.entries }
+abbrev pub claim_by : ℕ → Claimed → Claim
+claim_by n c = record { ino = n; form = c.form }
 
-claimed_by : (n b : ℕ) (d : DirectoryBlock) (ds : List DirectoryBlock) (t : Bool) → is_some (claim_among n b ds) ≡ among (block_numbers ds) b
-    → is_some (cond t (Some (claim_by n d)) (claim_among n b ds)) ≡ (t || among (block_numbers ds) b)
-claimed_by n b d ds true h = refl
-claimed_by n b d ds false h = h
+-- ---- the first claim of a block is found
 
--- a block is claimed where it stands among the blocks
-pub claimed : (n b : ℕ) (ds : List DirectoryBlock) → is_some (claim_among n b ds) ≡ among (block_numbers ds) b
+found_by : (n : ℕ) (c d : Claimed) (cs : List Claimed) (t : Bool) → d.block == c.block ≡ t → one d.block c.block ≡ 0 → claim_among n d.block cs ≡ Some (claim_by n d)
+    → cond t (Some (claim_by n c)) (claim_among n d.block cs) ≡ Some (claim_by n d)
+found_by n c d cs true e none h = absurd (let x : 1 ≡ 0 = sym (ap (λ t. cond t 1 0) e) ∙ none in omega (arith, x))
+found_by n c d cs false e none h = h
+
+found : (n : ℕ) (pre post : List Claimed) (d : Claimed) → uses (claimed_blocks pre) d.block ≡ 0 → claim_among n d.block (pre ++ d ∷ post) ≡ Some (claim_by n d)
+found n [] post d none = ap (λ t. cond t (Some (claim_by n d)) (claim_among n d.block post)) (eq-eqb d.block d.block refl)
+found n (c ∷ pre) post d none =
+    found_by n c d (pre ++ d ∷ post) (d.block == c.block) refl (omega (arith, none)) (found n pre post d (omega (arith, none)))
+
+-- a block that stands in no claim is not claimed
+missing_by : (n b : ℕ) (c : Claimed) (cs : List Claimed) (t : Bool) → (b == c.block) ≡ t → one b c.block ≡ 0 → claim_among n b cs ≡ None → cond t (Some (claim_by n c)) (claim_among n b cs) ≡ None
+missing_by n b c cs true e none h = absurd (let x : 1 ≡ 0 = sym (ap (λ t. cond t 1 0) e) ∙ none in omega (arith, x))
+missing_by n b c cs false e none h = h
+
+pub missing : (n b : ℕ) (cs : List Claimed) → uses (claimed_blocks cs) b ≡ 0 → claim_among n b cs ≡ None
+missing n b [] none = refl
+missing n b (c ∷ cs) none = missing_by n b c cs (b == c.block) refl (omega (arith, none)) (missing n b cs (omega (arith, none)))
+
+some_by : (n b : ℕ) (c : Claimed) (cs : List Claimed) (t : Bool) → is_some (claim_among n b cs) ≡ among (claimed_blocks cs) b
+    → is_some (cond t (Some (claim_by n c)) (claim_among n b cs)) ≡ (t || among (claimed_blocks cs) b)
+some_by n b c cs true h = refl
+some_by n b c cs false h = h
+
+-- a block is claimed where it stands among the claims
+pub claimed : (n b : ℕ) (cs : List Claimed) → is_some (claim_among n b cs) ≡ among (claimed_blocks cs) b
 claimed n b [] = refl
-claimed n b (d ∷ ds) = claimed_by n b d ds (b == d.block) (claimed n b ds)
+claimed n b (c ∷ cs) = some_by n b c cs (b == c.block) (claimed n b cs)
 
-none_of : (o : Option Claim) (t : Bool) → is_some o ≡ t → t ≢ true → o ≡ None
-none_of None t h ne = refl
-none_of (Some c) t h ne = absurd (ne (sym h))
+-- ---- what is claimed is owned
 
-some_of : (o : Option Claim) → is_some o ≡ true → (c : Claim) × (o ≡ Some c)
-some_of None h = absurd cc
-some_of (Some c) h = (c, refl)
+pub chain_blocks : (n : ℕ) (es : List Extent) (ms : List ℕ) → claimed_blocks (chain_of n es ms) ≡ ms
+chain_blocks n es [] = refl
+chain_blocks n es (b ∷ bs) = ap (λ (xs : List ℕ). b ∷ xs) (chain_blocks n (drop 63 es) bs)
 
-ino_by : (n b : ℕ) (d : DirectoryBlock) (ds : List DirectoryBlock) (c : Claim) (t : Bool) → (claim_among n b ds ≡ Some c → c.ino ≡ n)
-    → cond t (Some (claim_by n d)) (claim_among n b ds) ≡ Some c → c.ino ≡ n
-ino_by n b d ds c true rest h = let e : claim_by n d ≡ c = cc in sym (ap (λ (x : Claim). x.ino) e)
-ino_by n b d ds c false rest h = rest h
+pub name_blocks : (ds : List DirectoryBlock) → claimed_blocks (map names_claimed ds) ≡ block_numbers ds
+name_blocks [] = refl
+name_blocks (d ∷ ds) = ap (λ (xs : List ℕ). d.block ∷ xs) (name_blocks ds)
 
-ino_is : (n b : ℕ) (ds : List DirectoryBlock) (c : Claim) → claim_among n b ds ≡ Some c → c.ino ≡ n
-ino_is n b [] c h = absurd cc
-ino_is n b (d ∷ ds) c h = ino_by n b d ds c (b == d.block) (ino_is n b ds c) h
+pub file_blocks : (ms : List Mapped) → claimed_blocks (map page_claimed ms) ≡ page_blocks ms
+file_blocks [] = refl
+file_blocks (m ∷ ms) = ap (λ (xs : List ℕ). m.block ∷ xs) (file_blocks ms)
 
--- ---- all directories
+-- the blocks that are claimed, in order
+pub claims_split : (l : Layout) (n : ℕ) → claimed_blocks (claimed_at l n) ≡ block_numbers (blocks_at l n) ++ (page_blocks (space_at l n).settled ++ settled_maps l n)
+claims_split l n =
+    map-append (λ (c : Claimed). c.block) (map names_claimed (blocks_at l n)) (map page_claimed (space_at l n).settled ++ chain_at l n)
+    ∙ (λ i. name_blocks (blocks_at l n) i ++ map-append (λ (c : Claimed). c.block) (map page_claimed (space_at l n).settled) (chain_at l n) i)
+    ∙ (λ i. block_numbers (blocks_at l n) ++ (file_blocks (space_at l n).settled i ++ chain_blocks n (drop 6 (stretches (settled_at l n))) (settled_maps l n) i))
 
-none_below : (l : Layout) (b n : ℕ) → ((k : ℕ) → k ≢ n → claim_among k b (blocks_at l k) ≡ None) → (m : ℕ) → m ≤ n → claim_below l b m ≡ None
-unfolding claim_below
-none_below l b n none zero le = refl
-none_below l b n none (suc m) le =
-    ap (λ o. or_claim o (claim_below l b m)) (none m (λ e. absurd (omega arith))) ∙ none_below l b n none m (omega arith)
+-- a list by one of its places
+pub parted : {X : Type 0} (xs : List X) (k : ℕ) (x : X) → slice_get xs k ≡ Some x → (pre : List X) × (post : List X) × (xs ≡ pre ++ x ∷ post)
+parted [] k x at = absurd cc
+parted (y ∷ ys) zero x at = let e : y ≡ x = cc in ([], ys, ap (λ z. z ∷ ys) e)
+parted (y ∷ ys) (suc k) x at = let rest = parted ys k x at in (y ∷ rest.0, rest.1, ap (λ zs. y ∷ zs) rest.2)
+
+-- ---- laid-out states: no page of a file so far, and as many map blocks as a directory needs
+
+no_right : (xs ys : List ℕ) → xs ++ ys ≡ [] → ys ≡ []
+no_right [] ys h = h
+no_right (x ∷ xs) ys h = absurd cc
+
+no_space_by : (l : Layout) (n : ℕ) (o : Option Node) → IsHeld l n o → space_at l n ≡ no_space
+no_space_by l n None h = h.space
+no_space_by l n (Some (IsFile f)) h = h.0.1.space
+no_space_by l n (Some (IsDirectory d)) h = h.0.space
+
+pub without_space : (s : State) → IsLaidOut s → (n : ℕ) → space_at s.layout n ≡ no_space
+without_space s is n = no_space_by s.layout n (map_of.get s.tree.nodes n) (is.nodes n)
+
+-- the settled pages are a directory's
+pub settled_pages : (s : State) → IsLaidOut s → (n : ℕ) → settled_at s.layout n ≡ pages_from 0 (blocks_at s.layout n)
+settled_pages s is n = ap (λ (x : Space). pages_from 0 (blocks_at s.layout n) ++ x.settled) (without_space s is n) ∙ append-nil (pages_from 0 (blocks_at s.layout n))
+
+take_none : (k : ℕ) (ms : List ℕ) → ms ≡ [] → take k ms ≡ ms
+take_none zero [] h = refl
+take_none (suc k) [] h = refl
+take_none k (m ∷ ms) h = absurd cc
+
+none_settled : (l : Layout) (n : ℕ) → HasNothing l n → settled_maps l n ≡ maps_at l n
+none_settled l n h =
+    take_none (maps_for (settled_at l n)) (maps_at l n)
+    (no_right (page_blocks (space_at l n).present) (maps_at l n) (no_right (block_numbers (blocks_at l n)) (page_blocks (space_at l n).present ++ maps_at l n) h.none))
+
+settled_by : (s : State) (is : IsLaidOut s) (n : ℕ) (o : Option Node) → IsHeld s.layout n o → settled_maps s.layout n ≡ maps_at s.layout n
+settled_by s is n None h = none_settled s.layout n h
+settled_by s is n (Some (IsFile f)) h = none_settled s.layout n h.0.1
+settled_by s is n (Some (IsDirectory d)) h =
+    ap (λ (ps : List Mapped). take (maps_for ps) (maps_at s.layout n)) (settled_pages s is n) ∙ ap (λ k. take k (maps_at s.layout n)) (sym h.0.maps) ∙ take-length (maps_at s.layout n)
+
+-- all map blocks are on the device
+pub all_maps : (s : State) → IsLaidOut s → (n : ℕ) → settled_maps s.layout n ≡ maps_at s.layout n
+all_maps s is n = settled_by s is n (map_of.get s.tree.nodes n) (is.nodes n)
+
+-- what the device says of an inode is all that it has
+pub claims_owned : (s : State) → IsLaidOut s → (n : ℕ) → claimed_blocks (claimed_at s.layout n) ≡ owned s.layout n
+claims_owned s is n =
+    let none = without_space s is n in
+    claims_split s.layout n
+    ∙ (λ i. block_numbers (blocks_at s.layout n) ++ (page_blocks (none i).settled ++ all_maps s is n i))
+    ∙ (λ i. block_numbers (blocks_at s.layout n) ++ (page_blocks (sym none i).present ++ maps_at s.layout n))
+
+-- ---- the inode that has a block claims it
 
 or_none : (o : Option Claim) → or_claim o None ≡ o
 or_none None = refl
 or_none (Some c) = refl
 
-only_below : (l : Layout) (b n : ℕ) → ((k : ℕ) → k ≢ n → claim_among k b (blocks_at l k) ≡ None) → (m : ℕ) → n < m → claim_below l b m ≡ claim_among n b (blocks_at l n)
-unfolding claim_below
-only_below l b n none zero lt = absurd (omega arith)
-only_below l b n none (suc m) lt =
-    elim (cases_eq m n) [
-      | inl e ↦
-          ap (or_claim (claim_among m b (blocks_at l m))) (none_below l b n none m (omega arith)) ∙ or_none (claim_among m b (blocks_at l m))
-          ∙ ap (λ (k : ℕ). claim_among k b (blocks_at l k)) e
-      | inr ne ↦ ap (λ o. or_claim o (claim_below l b m)) (none m ne) ∙ only_below l b n none m (omega arith)
-    ]
+module _ (l : Layout) where
+  none_below : (b n : ℕ) → ((k : ℕ) → k ≢ n → claim_among k b (claimed_at l k) ≡ None) → (m : ℕ) → m ≤ n → claim_below l b m ≡ None
+  unfolding claim_below
+  none_below b n none zero le = refl
+  none_below b n none (suc m) le = ap (λ o. or_claim o (claim_below l b m)) (none m (λ e. absurd (omega (arith, e, le)))) ∙ none_below b n none m (omega (arith, le))
 
-pub none_among : (b : ℕ) (ds : List DirectoryBlock) → ds ≡ [] → among (block_numbers ds) b ≡ true → ⊥
-none_among b ds none h = let nothing : among [] b ≡ true = subst (λ (bs : List DirectoryBlock). among (block_numbers bs) b ≡ true) none h in absurd cc
+  pub only_below : (b n : ℕ) → ((k : ℕ) → k ≢ n → claim_among k b (claimed_at l k) ≡ None) → (m : ℕ) → n < m → claim_below l b m ≡ claim_among n b (claimed_at l n)
+  unfolding claim_below
+  only_below b n none zero lt = absurd (omega (arith, lt))
+  only_below b n none (suc m) lt = elim (cases_eq m n) [
+    | inl e ↦
+        ap (or_claim (claim_among m b (claimed_at l m))) (none_below b n none m (omega (arith, e))) ∙ or_none (claim_among m b (claimed_at l m))
+        ∙ ap (λ (k : ℕ). claim_among k b (claimed_at l k)) e
+    | inr ne ↦ ap (λ o. or_claim o (claim_below l b m)) (none m ne) ∙ only_below b n none m (omega (arith, lt, ne))
+  ]
 
-held_low : (l : Layout) (n b : ℕ) (o : Option Node) → IsHeld l n o → HasBlock l n b → n < 128 * l.units
-held_low l n b None held has = absurd (none_among b (blocks_at l n) held has)
-held_low l n b (Some node) held has = held.2
+module _ (s : State) (is : IsLaidOut s) where
+  abbrev l : Layout
+  l = s.layout
 
--- the directory that has a block claims it, and no other
-pub owner_claims : (s : State) → IsLaidOut s → (n b : ℕ) → HasBlock s.layout n b → claim_of s.layout b ≡ claim_among n b (blocks_at s.layout n)
-owner_claims s is n b has =
-    only_below s.layout b n
-    (λ k ne. none_of (claim_among k b (blocks_at s.layout k)) (among (block_numbers (blocks_at s.layout k)) b) (claimed k b (blocks_at s.layout k)) (λ other. ne (is.once k n b other has)))
-    (128 * s.layout.units) (held_low s.layout n b (map.get s.tree.nodes n) (is.nodes n) has)
+  claimed_uses : (n b : ℕ) → uses (claimed_blocks (claimed_at l n)) b ≡ uses (owned l n) b
+  claimed_uses n b = ap (λ (bs : List ℕ). uses bs b) (claims_owned s is n)
 
--- a claim is by the directory that has the block
-abbrev Owns : Layout → ℕ → Claim → Type 0
-Owns l b c = claim_among c.ino b (blocks_at l c.ino) ≡ Some c
+  -- where nobody has the block twice, a claim is found
+  pub claim_here : (n : ℕ) (pre post : List Claimed) (d : Claimed) → claimed_at l n ≡ pre ++ d ∷ post → claim_of l d.block ≡ Some (claim_by n d)
+  claim_here n pre post d e =
+      let b : ℕ = d.block in
+      let split : claimed_blocks (claimed_at l n) ≡ claimed_blocks pre ++ b ∷ claimed_blocks post = ap claimed_blocks e ∙ map-append (λ (c : Claimed). c.block) pre (d ∷ post) in
+      let all : uses (claimed_blocks (claimed_at l n)) b ≡ uses (claimed_blocks pre ++ b ∷ claimed_blocks post) b = ap (λ (xs : List ℕ). uses xs b) split in
+      let parted = uses_append (claimed_blocks pre) (b ∷ claimed_blocks post) b in
+      let self : one b b ≡ 1 = ap (λ t. cond t 1 0) (eq-eqb b b refl) in
+      let low = claimed_uses n b in
+      let once = is.use_of_blocks.apart n b in
+      let none : uses (claimed_blocks pre) b ≡ 0 = omega (arith, all, parted, self, low, once) in
+      let owns : Owns l n b = is_among (owned l n) b (omega (arith, all, parted, self, low)) in
+      only_below l b n (λ k ne. missing k b (claimed_at l k) (not_claimed k ne owns)) (128 * l.units) (is.use_of_blocks.low n b owns)
+      ∙ ap (claim_among n b) e ∙ found n pre post d none
+    where
+      not_claimed : (k : ℕ) → k ≢ n → Owns l n d.block → uses (claimed_blocks (claimed_at l k)) d.block ≡ 0
+      not_claimed k ne owns = elim (cases_Bool (among (owned l k) d.block)) [
+        | inl other ↦ absurd (ne (is.use_of_blocks.once k n d.block other owns))
+        | inr gone ↦ (let zero_owned = not_among (owned l k) d.block gone in let low = claimed_uses k d.block in omega (arith, zero_owned, low))
+      ]
 
-owns_by : (l : Layout) (b n : ℕ) (c : Claim) (o rest : Option Claim) → claim_among n b (blocks_at l n) ≡ o → (rest ≡ Some c → Owns l b c) → or_claim o rest ≡ Some c → Owns l b c
-owns_by l b n c None rest is below h = below h
-owns_by l b n c (Some x) rest is below h =
-    let there : claim_among n b (blocks_at l n) ≡ Some c = is ∙ h in
-    subst (λ (k : ℕ). claim_among k b (blocks_at l k) ≡ Some c) (sym (ino_is n b (blocks_at l n) c there)) there
+  -- ---- by places
 
-owns_below : (l : Layout) (b : ℕ) (c : Claim) (m : ℕ) → claim_below l b m ≡ Some c → Owns l b c
-unfolding claim_below
-owns_below l b c zero h = absurd cc
-owns_below l b c (suc n) h = owns_by l b n c (claim_among n b (blocks_at l n)) (claim_below l b n) refl (owns_below l b c n) h
+  pub claim_law : (n k : ℕ) (c : Claimed) → slice_get (claimed_at l n) k ≡ Some c → claim_of l c.block ≡ Some (claim_by n c)
+  claim_law n k c at = let parts = parted (claimed_at l n) k c at in claim_here n parts.0 parts.1 c parts.2
 
-pub claim_owns : (l : Layout) (b : ℕ) (c : Claim) → claim_of l b ≡ Some c → claim_among c.ino b (blocks_at l c.ino) ≡ Some c
-claim_owns l b c h = owns_below l b c (128 * l.units) h
+  pub block_law : (n i : ℕ) (d : DirectoryBlock) → slice_get (blocks_at l n) i ≡ Some d → claim_of l d.block ≡ Some (claim_by n (names_claimed d))
+  block_law n i d at =
+      let parts = parted (blocks_at l n) i d at in
+      let rest : List Claimed = map page_claimed (space_at l n).settled ++ chain_at l n in
+      claim_here n (map names_claimed parts.0) (map names_claimed parts.1 ++ rest) (names_claimed d)
+      (ap (λ (ds : List DirectoryBlock). map names_claimed ds ++ rest) parts.2 ∙ ap (λ (cs : List Claimed). cs ++ rest) (map-append names_claimed parts.0 (d ∷ parts.1))
+      ∙ append_assoc (map names_claimed parts.0) (names_claimed d ∷ map names_claimed parts.1) rest)
 
-pub claim_has : (l : Layout) (b : ℕ) (c : Claim) → claim_of l b ≡ Some c → HasBlock l c.ino b
-claim_has l b c h = sym (claimed c.ino b (blocks_at l c.ino)) ∙ ap is_some (claim_owns l b c h)
+  pub map_law : (n k : ℕ) (c : Claimed) → slice_get (chain_at l n) k ≡ Some c → claim_of l c.block ≡ Some (claim_by n c)
+  map_law n k c at =
+      let parts = parted (chain_at l n) k c at in
+      let names : List Claimed = map names_claimed (blocks_at l n) in
+      let pages : List Claimed = map page_claimed (space_at l n).settled in
+      claim_here n (names ++ (pages ++ parts.0)) parts.1 c
+      (ap (λ (cs : List Claimed). names ++ (pages ++ cs)) parts.2 ∙ ap (λ (cs : List Claimed). names ++ cs) (sym (append_assoc pages parts.0 (c ∷ parts.1)))
+      ∙ sym (append_assoc names (pages ++ parts.0) (c ∷ parts.1)))
 
--- the claim of a directory's block
-pub block_claim : (s : State) → IsLaidOut s → (n b : ℕ) → HasBlock s.layout n b → (c : Claim) × (claim_of s.layout b ≡ Some c) × (c.ino ≡ n)
-block_claim s is n b has =
-    let here = some_of (claim_among n b (blocks_at s.layout n)) (claimed n b (blocks_at s.layout n) ∙ has) in
-    (here.0, owner_claims s is n b has ∙ here.1, ino_is n b (blocks_at s.layout n) here.0 here.1)
+  some_or : (a c : Option Claim) → is_some (or_claim a c) ≡ (is_some a || is_some c)
+  some_or None c = refl
+  some_or (Some x) c = refl
 
--- ---- a directory with one block
+  owned_below : (b n : ℕ) → is_some (claim_below l b n) ≡ is_owned_below l b n
+  unfolding claim_below is_owned_below
+  owned_below b zero = refl
+  owned_below b (suc n) =
+      some_or (claim_among n b (claimed_at l n)) (claim_below l b n)
+      ∙ (λ i. (claimed n b (claimed_at l n) ∙ ap (λ (bs : List ℕ). among bs b) (claims_owned s is n)) i || owned_below b n i)
 
-pub one_claims : (s : State) (n : ℕ) (d : DirectoryBlock) → IsLaidOut s → blocks_at s.layout n ≡ d ∷ [] → claim_of s.layout d.block ≡ Some (record { ino = n; entries = d.entries })
-one_claims s n d is at =
-    let here : (d.block == d.block) ≡ true = eq-eqb d.block d.block refl in
-    let has : HasBlock s.layout n d.block = ap (λ (ds : List DirectoryBlock). among (block_numbers ds) d.block) at ∙ ap (λ t. t || false) here in
-    owner_claims s is n d.block has ∙ ap (claim_among n d.block) at ∙ ap (λ t. cond t (Some (claim_by n d)) None) here
-
--- ---- what is claimed is a data block, and its entries have a spelling
-
-one_fits : (l : Layout) (n b : ℕ) (d : DirectoryBlock) (c : Claim) (t : Bool) → (b == d.block) ≡ t → IsTrue (is_data (volume l) d.block) → IsDir 1024 d.entries
-    → cond t (Some (claim_by n d)) None ≡ Some c → IsTrue (is_data (volume l) b) × IsDir 1024 c.entries
-one_fits l n b d c true is there entries h =
-    let e : claim_by n d ≡ c = cc in
-    (subst (λ (x : ℕ). IsTrue (is_data (volume l) x)) (sym (eqb-true b d.block is)) there, subst (λ (x : Claim). IsDir 1024 x.entries) e entries)
-one_fits l n b d c false is there entries h = absurd cc
-
-among_fits : (l : Layout) (n b : ℕ) (ds : List DirectoryBlock) (c : Claim) → AreBlocks l ds → claim_among n b ds ≡ Some c → IsTrue (is_data (volume l) b) × IsDir 1024 c.entries
-among_fits l n b [] c are h = absurd cc
-among_fits l n b (d ∷ ds) c are h =
-    let Q : List DirectoryBlock → Type 0 = λ rest. claim_among n b (d ∷ rest) ≡ Some c → IsTrue (is_data (volume l) b) × IsDir 1024 c.entries in
-    subst Q (sym are.2) (one_fits l n b d c (b == d.block) refl are.0 are.1) h
-
-pub claim_fits : (s : State) → IsLaidOut s → (b : ℕ) (c : Claim) → claim_of s.layout b ≡ Some c → IsTrue (is_data (volume s.layout) b) × IsDir 1024 c.entries
-claim_fits s is b c h = among_fits s.layout c.ino b (blocks_at s.layout c.ino) c (is.blocks c.ino) (claim_owns s.layout b c h)
+  pub owned_law : (b : ℕ) → is_some (claim_of l b) ≡ is_owned l b
+  owned_law b = owned_below b (128 * l.units)

@@ -1,21 +1,29 @@
 -- Each edit keeps a state laid out.
-use Rattle.std.proofs.Common.{◌≡◌, ◌≢◌, ℕ, ◌*◌, ◌<◌, ◌≤◌, Bool, true, false, cond, List, [], ◌∷◌, Option, Some, None, refl, sym, ap, subst, ◌∙◌, inl, inr}
-use Rattle.std.specs.Prelude.{◌||◌, ◌==◌}
+use Rattle.std.proofs.Common.{◌≡◌, ◌≢◌, ℕ, ◌*◌, ◌<◌, ◌≤◌, Bool, true, false, cond, List, [], ◌∷◌, ◌++◌, length, Option, Some, None, refl, sym, ap, subst, ◌∙◌, arith, inl, inr}
+use Rattle.std.specs.Prelude.{◌==◌}
+use Rattle.std.specs.List.{AllByRecursion}
 use Rattle.std.specs.Cmp.{nat_cmp_total, tied_itself}
 use Rattle.std.specs.Ordering.{nat_cmp, is_eq}
 use Rattle.std.specs.FinMap as map
-use Rattle.std.proofs.lemmas.Bool.{cases_eq, true≢false, false_from_ne_true}
+use Rattle.std.proofs.lemmas.Bool.{cases_eq, eq-eqb, ne_eqb, true≢false, false_from_ne_true}
+use Rattle.std.proofs.lemmas.List.{append-nil}
 use Rattle.vx_base.proofs.Maps.{apart, at_key, at_other}
+use Rattle.vx_layout.specs.Dirs.{IsDir}
+use Rattle.vx_space.specs.Space.{Space, no_space, page_blocks, maps_for}
+use Rattle.vx_space.specs.Uses.{uses}
 use Rattle.vx_model.specs.Legal.{IfThere, with_released}
-use Rattle.vx_model.specs.Tree.{Tree, Nodes, Node, File, IsFile, IsDirectory, new_directory}
-use Rattle.vx_model.specs.Layout.{DirectoryBlock, Layout, blocks_at, block_numbers, with_blocks, pended, freed, kept_pending, released}
+use Rattle.vx_model.specs.Tree.{Tree, Nodes, Node, File, Directory, IsFile, IsDirectory, new_directory}
+use Rattle.vx_model.specs.Layout.{DirectoryBlock, Layout, blocks_at, space_at, maps_at, block_numbers, owned, pages_from, settled_at, with_blocks, given_up, freed, kept_pending, released}
 use Rattle.vx_model.specs.State.{State}
 use Rattle.vx_model.specs.Walks.{root}
 use Rattle.vx_model.specs.Edits.{with_nodes, set_node, drop_node}
 use Rattle.vx_model.specs.Naming.{with_mode}
 use Rattle.vx_model.specs.Images.{among}
-use Rattle.vx_model.specs.LaidOut.{AreBlocks, IsPlainFile, IsKept, IsHeld, IsDirectoryNode, HasBlock, IsLaidOut}
-use Rattle.vx_model.proofs.BlockClaims.{same_at, other_at}
+use Rattle.vx_model.specs.Reads.{entries_from}
+use Rattle.vx_model.specs.LaidOut.{Owns, IsOnceUsed, HasNothing, IsPlainFile, IsDirectoryOf, IsNodeOf, IsHeld, IsDirectoryNode, IsLaidOut, entries_of}
+use Rattle.vx_model.proofs.Owning.{fewer_once, same_once}
+use Rattle.vx_model.proofs.NextBlock.{page_numbers}
+use Rattle.vx_model.proofs.BlockClaims.{IsWhole, HasSame, same_owned}
 
 -- ---- maps without a key
 
@@ -27,87 +35,98 @@ removed_other m k q ne = map.get-remove nat_cmp_total m k q ∙ ap (λ b. cond b
 
 -- ---- what stands at an inode
 
-held_same : (l m : Layout) (n : ℕ) (o : Option Node) → blocks_at m n ≡ blocks_at l n → m.units ≡ l.units → IsHeld l n o → IsHeld m n o
-held_same l m n None same units h = same ∙ h
-held_same l m n (Some node) same units h =
-    (subst (λ bs. IsKept bs node) (sym same) h.0, h.1, subst (λ (u : ℕ). n < 128 * u) (sym units) h.2)
+pub record IsSameAt (l m : Layout) (n : ℕ) : Type 0 where
+  pub blocks : blocks_at m n ≡ blocks_at l n
+  pub space : space_at m n ≡ space_at l n
+  pub maps : maps_at m n ≡ maps_at l n
+
+pub same_at : (l m : Layout) (n : ℕ) → IsSameAt l m n → HasSame l m n
+same_at l m n is = record { numbers = ap block_numbers is.blocks; space = is.space; maps = is.maps }
+
+nothing_same : (l m : Layout) (n : ℕ) → IsSameAt l m n → HasNothing l n → HasNothing m n
+nothing_same l m n same h = record { none = same_owned l m n (same_at l m n same) ∙ h.none; space = same.space ∙ h.space }
+
+node_same : (l m : Layout) (n : ℕ) (node : Node) → IsSameAt l m n → m.directory_limit ≡ l.directory_limit → IsNodeOf l n node → IsNodeOf m n node
+node_same l m n (IsFile f) same limit h = (h.0, nothing_same l m n same h.1)
+node_same l m n (IsDirectory d) same limit h = record {
+  mode = h.mode;
+  entries = h.entries ∙ ap (λ (ds : List DirectoryBlock). entries_from (entries_of ds)) (sym same.blocks);
+  spelled = subst (AllByRecursion (λ (b : DirectoryBlock). IsDir 1024 b.entries)) (sym same.blocks) h.spelled;
+  few = subst (λ (k : ℕ). length (blocks_at m n) ≤ k) (sym limit) (subst (λ (ds : List DirectoryBlock). length ds ≤ l.directory_limit) (sym same.blocks) h.few);
+  maps = ap (λ (ms : List ℕ). length ms) same.maps ∙ h.maps ∙ ap (λ (ds : List DirectoryBlock). maps_for (pages_from 0 ds)) (sym same.blocks);
+  space = same.space ∙ h.space;
+}
+
+held_same : (l m : Layout) (n : ℕ) (o : Option Node) → IsSameAt l m n → m.units ≡ l.units → m.directory_limit ≡ l.directory_limit → IsHeld l n o → IsHeld m n o
+held_same l m n None same units limit h = nothing_same l m n same h
+held_same l m n (Some node) same units limit h = (node_same l m n node same limit h.0, h.1, subst (λ (u : ℕ). n < 128 * u) (sym units) h.2)
 
 -- a node that is there is kept within the units
-pub node_held : (s : State) → IsLaidOut s → (n : ℕ) (node : Node) → map.get s.tree.nodes n ≡ Some node → IsKept (blocks_at s.layout n) node × (2 ≤ n) × (n < 128 * s.layout.units)
+pub node_held : (s : State) → IsLaidOut s → (n : ℕ) (node : Node) → map.get s.tree.nodes n ≡ Some node → IsNodeOf s.layout n node × (2 ≤ n) × (n < 128 * s.layout.units)
 node_held s is n node there = subst (IsHeld s.layout n) there (is.nodes n)
 
-pub no_blocks : (s : State) → IsLaidOut s → (n : ℕ) → map.get s.tree.nodes n ≡ None → blocks_at s.layout n ≡ []
-no_blocks s is n there = subst (IsHeld s.layout n) there (is.nodes n)
+pub nothing_held : (s : State) → IsLaidOut s → (n : ℕ) → map.get s.tree.nodes n ≡ None → HasNothing s.layout n
+nothing_held s is n there = subst (IsHeld s.layout n) there (is.nodes n)
 
-has_low_by : (l : Layout) (n b : ℕ) (o : Option Node) → IsHeld l n o → HasBlock l n b → n < 128 * l.units
-has_low_by l n b None none has = absurd (true≢false (sym has ∙ ap (λ ds. among (block_numbers ds) b) none))
-has_low_by l n b (Some node) held has = held.2
+-- ---- all that an inode has is on the device
 
--- a directory with a block is within the units
-pub has_low : (s : State) → IsLaidOut s → (n b : ℕ) → HasBlock s.layout n b → n < 128 * s.layout.units
-has_low s is n b has = has_low_by s.layout n b (map.get s.tree.nodes n) (is.nodes n) has
+parts_empty : (xs ys : List ℕ) → xs ++ ys ≡ [] → (xs ≡ []) × (ys ≡ [])
+parts_empty [] ys h = (refl, h)
+parts_empty (x ∷ xs) ys h = absurd cc
+
+no_blocks : (ds : List DirectoryBlock) → block_numbers ds ≡ [] → ds ≡ []
+no_blocks [] h = refl
+no_blocks (d ∷ ds) h = absurd cc
+
+pub nothing_blocks : (l : Layout) (n : ℕ) → HasNothing l n → (blocks_at l n ≡ []) × (maps_at l n ≡ [])
+nothing_blocks l n h =
+    let two = parts_empty (block_numbers (blocks_at l n)) (page_blocks (space_at l n).present ++ maps_at l n) h.none in
+    (no_blocks (blocks_at l n) two.0, (parts_empty (page_blocks (space_at l n).present) (maps_at l n) two.1).1)
+
+pub nothing_whole : (l : Layout) (n : ℕ) → HasNothing l n → IsWhole l n
+nothing_whole l n h =
+    let two = nothing_blocks l n h in
+    record { space = h.space; maps = ap (λ (ms : List ℕ). length ms) two.1 ∙ ap (λ (ds : List DirectoryBlock). maps_for (pages_from 0 ds)) (sym two.0) }
+
+held_whole : (l : Layout) (n : ℕ) (o : Option Node) → IsHeld l n o → IsWhole l n
+held_whole l n None h = nothing_whole l n h
+held_whole l n (Some (IsFile f)) h = nothing_whole l n h.0.1
+held_whole l n (Some (IsDirectory d)) h = record { space = h.0.space; maps = h.0.maps }
+
+pub laid_whole : (s : State) → IsLaidOut s → (n : ℕ) → IsWhole s.layout n
+laid_whole s is n = held_whole s.layout n (map.get s.tree.nodes n) (is.nodes n)
 
 -- ---- one inode changes
 
-module _ (s : State) (is : IsLaidOut s) (at : ℕ) (nodes : Nodes) (directories : ℕ → List DirectoryBlock) (pending : ℕ → Option ℕ) where
+module _ (s : State) (is : IsLaidOut s) (at : ℕ) (nodes : Nodes) (directories : ℕ → List DirectoryBlock) (files : ℕ → Space) (maps : ℕ → List ℕ) (pending : ℕ → Option ℕ) where
   abbrev next_layout : Layout
-  next_layout = record s.layout { directories = directories; pending = pending }
+  next_layout = record s.layout { directories = directories; files = files; maps = maps; pending = pending }
 
   abbrev next : State
   next = record { tree = with_nodes s.tree nodes; layout = next_layout }
 
   record IsChange : Type 0 where
     other_nodes : (n : ℕ) → n ≢ at → map.get nodes n ≡ map.get s.tree.nodes n
-    other_blocks : (n : ℕ) → n ≢ at → directories n ≡ s.layout.directories n
+    others : (n : ℕ) → n ≢ at → IsSameAt s.layout next_layout n
     held : IsHeld next_layout at (map.get nodes at)
-    are : AreBlocks s.layout (directories at)
-    own : (b : ℕ) → among (block_numbers (directories at)) b ≡ true → (pending b ≡ None) × ((m : ℕ) → m ≢ at → HasBlock s.layout m b → ⊥)
-    waiting : (n b : ℕ) → n ≢ at → HasBlock s.layout n b → pending b ≡ None
+    once : IsOnceUsed next_layout
     rooted : IfThere (map.get nodes root) IsDirectoryNode
 
-  module _ (c : IsChange) where
-    had : (n b : ℕ) → n ≢ at → HasBlock next_layout n b → HasBlock s.layout n b
-    had n b ne h = subst (λ ds. among (block_numbers ds) b ≡ true) (c.other_blocks n ne) h
-
-    has_at : (n b : ℕ) → n ≡ at → HasBlock next_layout n b → HasBlock next_layout at b
-    has_at n b e h = subst (λ (k : ℕ). HasBlock next_layout k b) e h
-
-    next_laid : IsLaidOut next
-    next_laid = record {
-      nodes = λ n. elim (cases_eq n at) [
-        | inl e ↦ subst (λ (k : ℕ). IsHeld next_layout k (map.get nodes k)) (sym e) c.held
-        | inr ne ↦ subst (IsHeld next_layout n) (sym (c.other_nodes n ne)) (held_same s.layout next_layout n (map.get s.tree.nodes n) (c.other_blocks n ne) refl (is.nodes n))
-      ];
-      blocks = λ n. elim (cases_eq n at) [
-        | inl e ↦ subst (λ (k : ℕ). AreBlocks s.layout (directories k)) (sym e) c.are
-        | inr ne ↦ subst (AreBlocks s.layout) (sym (c.other_blocks n ne)) (is.blocks n)
-      ];
-      once = λ n m b h k. elim (cases_eq n at) [
-        | inl e ↦ elim (cases_eq m at) [
-          | inl f ↦ e ∙ sym f
-          | inr nf ↦ absurd ((c.own b (has_at n b e h)).1 m nf (had m b nf k))
-        ]
-        | inr ne ↦ elim (cases_eq m at) [
-          | inl f ↦ absurd ((c.own b (has_at m b f k)).1 n ne (had n b ne h))
-          | inr nf ↦ is.once n m b (had n b ne h) (had m b nf k)
-        ]
-      ];
-      not_pending = λ n b h. elim (cases_eq n at) [
-        | inl e ↦ (c.own b (has_at n b e h)).0
-        | inr ne ↦ c.waiting n b ne (had n b ne h)
-      ];
-      has_root = c.rooted;
-      units = is.units;
-      units_limit = is.units_limit;
-      log_blocks = is.log_blocks;
-      limit = is.limit;
-      room = is.room;
-      rest = ap (λ (t : Tree). record t { nodes = nodes }) is.rest;
-    }
-
--- a directory's blocks are its own, and don't wait
-pub own_blocks : (s : State) → IsLaidOut s → (at b : ℕ) → HasBlock s.layout at b → (s.layout.pending b ≡ None) × ((m : ℕ) → m ≢ at → HasBlock s.layout m b → ⊥)
-own_blocks s is at b h = (is.not_pending at b h, λ m ne k. ne (is.once m at b k h))
+  next_laid : IsChange → IsLaidOut next
+  next_laid c = record {
+    nodes = λ n. elim (cases_eq n at) [
+      | inl e ↦ subst (λ (k : ℕ). IsHeld next_layout k (map.get nodes k)) (sym e) c.held
+      | inr ne ↦ subst (IsHeld next_layout n) (sym (c.other_nodes n ne)) (held_same s.layout next_layout n (map.get s.tree.nodes n) (c.others n ne) refl refl (is.nodes n))
+    ];
+    use_of_blocks = c.once;
+    has_root = c.rooted;
+    units = is.units;
+    units_limit = is.units_limit;
+    log_blocks = is.log_blocks;
+    limit = is.limit;
+    room = is.room;
+    rest = ap (λ (t : Tree). record t { nodes = nodes }) is.rest;
+  }
 
 rooted_by : (s : State) → IsLaidOut s → (at : ℕ) (node : Node) → (at ≡ root → IsDirectoryNode node) → IfThere (map.get (map.insert s.tree.nodes at node) root) IsDirectoryNode
 rooted_by s is at node directory = elim (cases_eq root at) [
@@ -116,49 +135,82 @@ rooted_by s is at node directory = elim (cases_eq root at) [
   | inr ne ↦ subst (λ (o : Option Node). IfThere o IsDirectoryNode) (sym (at_other s.tree.nodes at node root ne)) is.has_root
 ]
 
+unchanged : (l : Layout) (n : ℕ) → IsSameAt l l n
+unchanged l n = record { blocks = refl; space = refl; maps = refl }
+
 -- a node at an inode whose blocks stay
-pub set_laid : (s : State) → IsLaidOut s → (at : ℕ) (node : Node) → IsKept (blocks_at s.layout at) node → 2 ≤ at → at < 128 * s.layout.units → (at ≡ root → IsDirectoryNode node) → IsLaidOut (set_node s at node)
+pub set_laid : (s : State) → IsLaidOut s → (at : ℕ) (node : Node) → IsNodeOf s.layout at node → 2 ≤ at → at < 128 * s.layout.units → (at ≡ root → IsDirectoryNode node) → IsLaidOut (set_node s at node)
 set_laid s is at node kept low high directory =
-    next_laid s is at (map.insert s.tree.nodes at node) s.layout.directories s.layout.pending (record {
+    next_laid s is at (map.insert s.tree.nodes at node) s.layout.directories s.layout.files s.layout.maps s.layout.pending (record {
       other_nodes = at_other s.tree.nodes at node;
-      other_blocks = λ n ne. refl;
+      others = λ n ne. unchanged s.layout n;
       held = subst (IsHeld s.layout at) (sym (at_key s.tree.nodes at node)) (kept, low, high);
-      are = is.blocks at;
-      own = own_blocks s is at;
-      waiting = λ n b ne h. is.not_pending n b h;
+      once = is.use_of_blocks;
       rooted = rooted_by s is at node directory;
     })
 
--- a node at an inode with other blocks
-pub replaced_laid : (s : State) → IsLaidOut s → (at : ℕ) (node : Node) (blocks : List DirectoryBlock) → IsKept blocks node → 2 ≤ at → at < 128 * s.layout.units → (at ≡ root → IsDirectoryNode node)
-    → AreBlocks s.layout blocks → ((b : ℕ) → among (block_numbers blocks) b ≡ true → (s.layout.pending b ≡ None) × ((m : ℕ) → m ≢ at → HasBlock s.layout m b → ⊥))
-    → IsLaidOut (record { tree = with_nodes s.tree (map.insert s.tree.nodes at node); layout = with_blocks s.layout at blocks })
-replaced_laid s is at node blocks kept low high directory are own =
-    let same = same_at s.layout at blocks in
-    next_laid s is at (map.insert s.tree.nodes at node) (λ n. cond (n == at) blocks (s.layout.directories n)) s.layout.pending (record {
-      other_nodes = at_other s.tree.nodes at node;
-      other_blocks = other_at s.layout at blocks;
-      held = subst (IsHeld (with_blocks s.layout at blocks) at) (sym (at_key s.tree.nodes at node)) (subst (λ bs. IsKept bs node) (sym same) kept, low, high);
-      are = subst (AreBlocks s.layout) (sym same) are;
-      own = λ b h. own b (subst (λ ds. among (block_numbers ds) b ≡ true) same h);
-      waiting = λ n b ne h. is.not_pending n b h;
-      rooted = rooted_by s is at node directory;
+-- ---- the blocks of one inode
+
+pub here : {A : Type 0} (at : ℕ) (x y : A) → cond (at == at) x y ≡ x
+here at x y = ap (λ t. cond t x y) (eq-eqb at at refl)
+
+pub elsewhere : {A : Type 0} (n at : ℕ) (x y : A) → n ≢ at → cond (n == at) x y ≡ y
+elsewhere n at x y ne = ap (λ t. cond t x y) (ne_eqb n at ne)
+
+-- other blocks of one directory, and maybe other map blocks
+abbrev pub with_directory : Layout → ℕ → List DirectoryBlock → (ℕ → List ℕ) → Layout
+with_directory l at blocks maps = record (with_blocks l at blocks) { maps = maps }
+
+pub others_same : (l : Layout) (at : ℕ) (blocks : List DirectoryBlock) (maps : ℕ → List ℕ) → ((n : ℕ) → n ≢ at → maps n ≡ l.maps n) → (n : ℕ) → n ≢ at → IsSameAt l (with_directory l at blocks maps) n
+others_same l at blocks maps same n ne = record { blocks = elsewhere n at blocks (l.directories n) ne; space = refl; maps = same n ne }
+
+pub replaced_laid : (s : State) → IsLaidOut s → (at : ℕ) (d : Directory) (blocks : List DirectoryBlock) (maps : ℕ → List ℕ) → ((n : ℕ) → n ≢ at → maps n ≡ s.layout.maps n)
+    → IsDirectoryOf (with_directory s.layout at blocks maps) at d → 2 ≤ at → at < 128 * s.layout.units → IsOnceUsed (with_directory s.layout at blocks maps)
+    → IsLaidOut (record { tree = with_nodes s.tree (map.insert s.tree.nodes at (IsDirectory d)); layout = with_directory s.layout at blocks maps })
+replaced_laid s is at d blocks maps same kept low high once =
+    let l : Layout = with_directory s.layout at blocks maps in
+    next_laid s is at (map.insert s.tree.nodes at (IsDirectory d)) l.directories l.files l.maps l.pending (record {
+      other_nodes = at_other s.tree.nodes at (IsDirectory d);
+      others = others_same s.layout at blocks maps same;
+      held = subst (IsHeld l at) (sym (at_key s.tree.nodes at (IsDirectory d))) (kept, low, high);
+      once = once;
+      rooted = rooted_by s is at (IsDirectory d) (λ e. tt);
     })
+
+-- the blocks keep their numbers
+pub same_numbers : (l : Layout) (at : ℕ) (blocks : List DirectoryBlock) → block_numbers blocks ≡ block_numbers (blocks_at l at) → (n : ℕ) → HasSame l (with_blocks l at blocks) n
+same_numbers l at blocks same n = elim (cases_eq n at) [
+  | inl e ↦ subst (HasSame l (with_blocks l at blocks)) (sym e) (record { numbers = ap block_numbers (here at blocks (l.directories at)) ∙ same; space = refl; maps = refl })
+  | inr ne ↦ record { numbers = ap block_numbers (elsewhere n at blocks (l.directories n) ne); space = refl; maps = refl }
+]
 
 -- ---- an inode
 
-pub file_set : (s : State) (ino : ℕ) (f : File) → IsLaidOut s → IsPlainFile f → ino ≢ root → 2 ≤ ino → ino < 128 * s.layout.units → blocks_at s.layout ino ≡ [] → IsLaidOut (set_node s ino (IsFile f))
+pub file_set : (s : State) (ino : ℕ) (f : File) → IsLaidOut s → IsPlainFile f → ino ≢ root → 2 ≤ ino → ino < 128 * s.layout.units → HasNothing s.layout ino → IsLaidOut (set_node s ino (IsFile f))
 file_set s ino f is plain ne low high none = set_laid s is ino (IsFile f) (plain, none) low high (λ e. absurd (ne e))
 
-pub directory_set : (s : State) (ino mode : ℕ) → IsLaidOut s → mode ≤ 4095 → 2 ≤ ino → ino < 128 * s.layout.units → map.get s.tree.nodes ino ≡ None → IsLaidOut (set_node s ino (new_directory mode))
-directory_set s ino mode is fits low high unused =
-    set_laid s is ino (new_directory mode) (subst (λ bs. IsKept bs (new_directory mode)) (sym (no_blocks s is ino unused)) (fits, refl)) low high (λ e. tt)
+-- a directory without a name has no block
+empty_directory : (l : Layout) (n mode : ℕ) → mode ≤ 4095 → HasNothing l n → IsNodeOf l n (new_directory mode)
+empty_directory l n mode fits h =
+    let two = nothing_blocks l n h in
+    let whole = nothing_whole l n h in
+    record {
+      mode = fits;
+      entries = ap (λ (ds : List DirectoryBlock). entries_from (entries_of ds)) (sym two.0);
+      spelled = subst (AllByRecursion (λ (b : DirectoryBlock). IsDir 1024 b.entries)) (sym two.0) tt;
+      few = (let none : length (blocks_at l n) ≡ 0 = ap (λ (ds : List DirectoryBlock). length ds) two.0 in omega (arith, none));
+      maps = whole.maps;
+      space = h.space;
+    }
 
-mode_kept : (blocks : List DirectoryBlock) (node : Node) (mode : ℕ) → mode ≤ 4095 → IsKept blocks node → IsKept blocks (with_mode mode node)
-mode_kept blocks (IsFile f) mode fits kept =
+pub directory_set : (s : State) (ino mode : ℕ) → IsLaidOut s → mode ≤ 4095 → 2 ≤ ino → ino < 128 * s.layout.units → map.get s.tree.nodes ino ≡ None → IsLaidOut (set_node s ino (new_directory mode))
+directory_set s ino mode is fits low high unused = set_laid s is ino (new_directory mode) (empty_directory s.layout ino mode fits (nothing_held s is ino unused)) low high (λ e. tt)
+
+mode_kept : (l : Layout) (n : ℕ) (node : Node) (mode : ℕ) → mode ≤ 4095 → IsNodeOf l n node → IsNodeOf l n (with_mode mode node)
+mode_kept l n (IsFile f) mode fits kept =
     let plain = kept.0 in
     (record { mode = fits; some_links = plain.some_links; few_links = plain.few_links; attrs = plain.attrs; bytes = plain.bytes }, kept.1)
-mode_kept blocks (IsDirectory d) mode fits kept = (fits, kept.1)
+mode_kept l n (IsDirectory d) mode fits kept = record { mode = fits; entries = kept.entries; spelled = kept.spelled; few = kept.few; maps = kept.maps; space = kept.space }
 
 mode_directory : (node : Node) (mode : ℕ) → IsDirectoryNode node → IsDirectoryNode (with_mode mode node)
 mode_directory (IsFile f) mode h = h
@@ -170,32 +222,55 @@ root_is s is n node there e = subst (λ (o : Option Node). IfThere o IsDirectory
 pub mode_set : (s : State) (ino mode : ℕ) (node : Node) → IsLaidOut s → mode ≤ 4095 → map.get s.tree.nodes ino ≡ Some node → IsLaidOut (set_node s ino (with_mode mode node))
 mode_set s ino mode node is fits there =
     let held = node_held s is ino node there in
-    set_laid s is ino (with_mode mode node) (mode_kept (blocks_at s.layout ino) node mode fits held.0) held.1 held.2 (λ e. mode_directory node mode (root_is s is ino node there e))
+    set_laid s is ino (with_mode mode node) (mode_kept s.layout ino node mode fits held.0) held.1 held.2 (λ e. mode_directory node mode (root_is s is ino node there e))
 
 -- ---- an inode that goes
 
-pended_by : (place b : ℕ) (d : DirectoryBlock) (ds : List DirectoryBlock) (pending : ℕ → Option ℕ) (t : Bool) → (among (block_numbers ds) b ≡ false → pended place ds pending b ≡ pending b)
-    → (t || among (block_numbers ds) b) ≡ false → cond t (Some place) (pended place ds pending b) ≡ pending b
-pended_by place b d ds pending true more h = absurd cc
-pended_by place b d ds pending false more h = more h
+-- what it gives up is all that it has
+pub gives_all : (l : Layout) (n : ℕ) → IsWhole l n → given_up l n ≡ owned l n
+gives_all l n is =
+    let pages : page_blocks (settled_at l n) ≡ block_numbers (blocks_at l n) =
+    ap (λ (x : Space). page_blocks (pages_from 0 (blocks_at l n) ++ x.settled)) is.space ∙ ap page_blocks (append-nil (pages_from 0 (blocks_at l n))) ∙ page_numbers 0 (blocks_at l n) in
+    ap (λ (bs : List ℕ). bs ++ maps_at l n) pages ∙ ap (λ (x : Space). block_numbers (blocks_at l n) ++ (page_blocks x.present ++ maps_at l n)) (sym is.space)
 
-pended_other : (place b : ℕ) (ds : List DirectoryBlock) (pending : ℕ → Option ℕ) → among (block_numbers ds) b ≡ false → pended place ds pending b ≡ pending b
-pended_other place b [] pending h = refl
-pended_other place b (d ∷ ds) pending h = pended_by place b d ds pending (b == d.block) (pended_other place b ds pending) h
+module _ (l : Layout) (place ino : ℕ) where
+  pub freed_others : (n : ℕ) → n ≢ ino → IsSameAt l (freed l place ino) n
+  freed_others n ne = record { blocks = elsewhere n ino [] (l.directories n) ne; space = elsewhere n ino no_space (l.files n) ne; maps = elsewhere n ino [] (l.maps n) ne }
 
-not_in : (s : State) → IsLaidOut s → (n m b : ℕ) → n ≢ m → HasBlock s.layout n b → among (block_numbers (blocks_at s.layout m)) b ≡ false
-not_in s is n m b ne h = false_from_ne_true (among (block_numbers (blocks_at s.layout m)) b) (λ k. ne (is.once n m b h k))
+  pub freed_nothing : HasNothing (freed l place ino) ino
+  freed_nothing = record {
+    none = ap (λ (t : Bool). block_numbers (cond t [] (l.directories ino)) ++ (page_blocks (cond t no_space (l.files ino)).present ++ cond t [] (l.maps ino))) (eq-eqb ino ino refl);
+    space = here ino no_space (l.files ino);
+  }
+
+  freed_owned : (n b : ℕ) → Owns (freed l place ino) n b → (n ≢ ino) × Owns l n b
+  freed_owned n b owns = elim (cases_eq n ino) [
+    | inl e ↦ absurd (true≢false (sym (subst (λ (k : ℕ). Owns (freed l place ino) k b) e owns) ∙ ap (λ (xs : List ℕ). among xs b) freed_nothing.none))
+    | inr ne ↦ (ne, subst (λ (xs : List ℕ). among xs b ≡ true) (same_owned l (freed l place ino) n (same_at l (freed l place ino) n (freed_others n ne))) owns)
+  ]
+
+  freed_fewer : (n b : ℕ) → uses (owned (freed l place ino) n) b ≤ uses (owned l n) b
+  freed_fewer n b = elim (cases_eq n ino) [
+    | inl e ↦ (let none : uses (owned (freed l place ino) n) b ≡ 0 = ap (λ (k : ℕ). uses (owned (freed l place ino) k) b) e ∙ ap (λ (xs : List ℕ). uses xs b) freed_nothing.none in omega (arith, none))
+    | inr ne ↦
+        let same : uses (owned (freed l place ino) n) b ≡ uses (owned l n) b = ap (λ (xs : List ℕ). uses xs b) (same_owned l (freed l place ino) n (same_at l (freed l place ino) n (freed_others n ne))) in
+        omega (arith, same)
+  ]
+
+  freed_once : IsWhole l ino → IsOnceUsed l → IsOnceUsed (freed l place ino)
+  freed_once whole is = fewer_once l (freed l place ino) refl freed_fewer is (λ n b owns.
+      let had = freed_owned n b owns in
+      let other : among (owned l ino) b ≡ false = false_from_ne_true (among (owned l ino) b) (λ k. had.0 (is.once n ino b had.1 k)) in
+      ap (λ (t : Bool). cond t (Some place) (l.pending b)) (ap (λ (xs : List ℕ). among xs b) (gives_all l ino whole) ∙ other) ∙ is.not_pending n b had.1)
 
 pub dropped : (s : State) (place ino : ℕ) → IsLaidOut s → ino ≢ root → IsLaidOut (drop_node s place ino)
 dropped s place ino is ne =
-    let same = same_at s.layout ino [] in
-    next_laid s is ino (map.remove s.tree.nodes ino) (λ n. cond (n == ino) [] (s.layout.directories n)) (pended place (blocks_at s.layout ino) s.layout.pending) (record {
+    let l : Layout = freed s.layout place ino in
+    next_laid s is ino (map.remove s.tree.nodes ino) l.directories l.files l.maps l.pending (record {
       other_nodes = removed_other s.tree.nodes ino;
-      other_blocks = other_at s.layout ino [];
-      held = subst (IsHeld (freed s.layout place ino) ino) (sym (removed_key s.tree.nodes ino)) same;
-      are = subst (AreBlocks s.layout) (sym same) tt;
-      own = λ b h. absurd (true≢false (sym h ∙ ap (λ ds. among (block_numbers ds) b) same));
-      waiting = λ n b other h. pended_other place b (blocks_at s.layout ino) s.layout.pending (not_in s is n ino b other h) ∙ is.not_pending n b h;
+      others = freed_others s.layout place ino;
+      held = subst (IsHeld l ino) (sym (removed_key s.tree.nodes ino)) (freed_nothing s.layout place ino);
+      once = freed_once s.layout place ino (laid_whole s is ino) is.use_of_blocks;
       rooted = subst (λ (o : Option Node). IfThere o IsDirectoryNode) (sym (removed_other s.tree.nodes ino root (λ e. ne (sym e)))) is.has_root;
     })
 
@@ -203,10 +278,8 @@ dropped s place ino is ne =
 
 pub released_laid : (s : State) (upto : ℕ) → IsLaidOut s → IsLaidOut (with_released s upto)
 released_laid s upto is = record {
-  nodes = λ n. held_same s.layout (released s.layout upto) n (map.get s.tree.nodes n) refl refl (is.nodes n);
-  blocks = is.blocks;
-  once = is.once;
-  not_pending = λ n b h. ap (kept_pending upto) (is.not_pending n b h);
+  nodes = λ n. held_same s.layout (released s.layout upto) n (map.get s.tree.nodes n) (record { blocks = refl; space = refl; maps = refl }) refl refl (is.nodes n);
+  use_of_blocks = same_once s.layout (released s.layout upto) refl (λ n. refl) (λ b none. ap (kept_pending upto) none) is.use_of_blocks;
   has_root = is.has_root;
   units = is.units;
   units_limit = is.units_limit;

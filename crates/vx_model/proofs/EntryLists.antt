@@ -8,7 +8,6 @@ use Rattle.std.specs.Ordering.{nat_cmp, eq_by_cmp}
 use Rattle.std.specs.FinMap as map
 use Rattle.std.specs.FinMap.Entries as entry
 use Rattle.std.proofs.lemmas.Bool.{leb-true, true≢false}
-use Rattle.std.proofs.lemmas.List.{map_push}
 use Rattle.std.proofs.lemmas.List.Elements.{filter-append}
 use Rattle.std.proofs.lemmas.List.Sums.{sum_by-append}
 use Rattle.std.proofs.lemmas.Map.Text.{is_eq-slice_cmp}
@@ -102,12 +101,31 @@ names_apart a b ne = apart (slice_cmp nat_cmp) (map.slice_cmp-IsAntisymmetric ma
 abbrev found : FileName → List DirEntry → Option ℕ
 found q es = entry.find (slice_cmp nat_cmp) q (map name_to_inode es)
 
--- an entry behind the others under a new name
-pub pushed_names : (es : List DirEntry) (e : DirEntry) → map.get (entries_from es) e.name ≡ None → entries_from (es ++ e ∷ []) ≡ map.insert (entries_from es) e.name e.ino
-pushed_names es e free =
-    ap map.from_entries (map_push name_to_inode es e)
-    ∙ map.from_entries_push nat_list_cmp_total (map.slice_cmp-IsAntisymmetric map.nat_cmp-IsAntisymmetric) (map name_to_inode es) e.name e.ino
-    (sym (map.get-from_entries nat_list_cmp_total (map name_to_inode es) e.name) ∙ free)
+-- an entry more under a new name, at any place
+none_parts : (t : Bool) (x : ℕ) (o : Option ℕ) → cond t (Some x) o ≡ None → (t ≡ false) × (o ≡ None)
+none_parts true x o h = absurd cc
+none_parts false x o h = (refl, h)
+
+either_first : (t u : Bool) (x y : Option ℕ) (o : Option ℕ) → (t ≡ true → u ≡ false) → cond t x (cond u y o) ≡ cond u y (cond t x o)
+either_first true true x y o h = absurd (true≢false (h refl))
+either_first true false x y o h = refl
+either_first false u x y o h = refl
+
+found_inserted : (q : FileName) (e : DirEntry) (pre post : List DirEntry) → found e.name (pre ++ post) ≡ None → found q (pre ++ e ∷ post) ≡ cond (same_name q e.name) (Some e.ino) (found q (pre ++ post))
+found_inserted q e [] post free = refl
+found_inserted q e (x ∷ pre) post free =
+    let two = none_parts (same_name e.name x.name) x.ino (found e.name (pre ++ post)) free in
+    ap (cond (same_name q x.name) (Some x.ino)) (found_inserted q e pre post two.1)
+    ∙ either_first (same_name q x.name) (same_name q e.name) (Some x.ino) (Some e.ino) (found q (pre ++ post))
+    (λ h. names_apart q e.name (λ same. true≢false (sym (subst (λ (k : FileName). same_name k x.name ≡ true) same h) ∙ two.0)))
+
+pub inserted_names : (pre post : List DirEntry) (e : DirEntry) → map.get (entries_from (pre ++ post)) e.name ≡ None → entries_from (pre ++ e ∷ post) ≡ map.insert (entries_from (pre ++ post)) e.name e.ino
+inserted_names pre post e free =
+    map.same_map nat_list_cmp_total (map.slice_cmp-IsAntisymmetric map.nat_cmp-IsAntisymmetric) _ _ (λ q.
+    map.get-from_entries nat_list_cmp_total (map name_to_inode (pre ++ e ∷ post)) q
+    ∙ found_inserted q e pre post (sym (map.get-from_entries nat_list_cmp_total (map name_to_inode (pre ++ post)) e.name) ∙ free)
+    ∙ ap (cond (same_name q e.name) (Some e.ino)) (sym (map.get-from_entries nat_list_cmp_total (map name_to_inode (pre ++ post)) q))
+    ∙ sym (map.get-insert nat_list_cmp_total (entries_from (pre ++ post)) e.name e.ino q))
 
 -- an entry that goes isn't found under its name
 gone : (a b : Bool) (x : Option ℕ) (o : Option ℕ) → (a ≡ true → b ≡ true) → cond b None o ≡ cond b None (cond a x o)

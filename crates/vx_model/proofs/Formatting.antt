@@ -1,7 +1,7 @@
 -- A new image reads as the empty root.
 use Rattle.std.proofs.Common.{◌≡◌, ◌≢◌, ℕ, zero, suc, ◌+◌, ◌-◌, ◌*◌, ◌/◌, ◌%◌, ◌<◌, ◌≤◌, Bool, true, false, cond, List, [], ◌++◌, replicate, Option, None, Some, refl, sym, ap, subst, ◌∙◌, arith, inl, inr, lit<, lit≤}
 use Rattle.std.specs.Prelude.{◌||◌, ◌&&◌, ◌==◌, nat_lt, nat_le, is_some, IfSome}
-use Rattle.std.specs.Option.{option_map}
+use Rattle.std.specs.Option.{option_map, option_and_then}
 use Rattle.std.specs.Ordering.{nat_cmp}
 use Rattle.std.specs.FinMap as map
 use Rattle.std.proofs.lemmas.Bool.{cases_eq, ne_eqb, eqb-false, ltb-true, ltb-false, leb-false}
@@ -12,17 +12,16 @@ use Rattle.vx_layout.specs.Supers.{IsSuper, volume_of}
 use Rattle.vx_layout.specs.declared.superblock.Super.{Super}
 use Rattle.vx_layout.specs.Bits.{bits_bytes}
 use Rattle.vx_layout.specs.Inodes.{slot_bytes}
-use Rattle.vx_layout.specs.Dirs.{dir_bytes}
 use Rattle.vx_layout.proofs.Standing.{place_is}
 use Rattle.vx_model.specs.Legal.{IfThere}
 use Rattle.vx_model.specs.Tree.{Node, new_directory, empty_root}
-use Rattle.vx_model.specs.Layout.{Claim, claim_below, claim_of}
+use Rattle.vx_model.specs.Layout.{Claim, volume, claim_below, claim_of}
 use Rattle.vx_model.specs.State.{State, fresh_of}
-use Rattle.vx_model.specs.Images.{Parsed, used_in, content, zero_sector, Stands}
+use Rattle.vx_sound.specs.Reading.{Form, form_bytes, used_in}
+use Rattle.vx_model.specs.Images.{Parsed, content, Stands}
 use Rattle.vx_model.specs.Reads.{ImageReadsAs}
-use Rattle.vx_model.specs.Contents.{inode_for, parsed_of, fresh_root, unit_bytes, IsFormatted}
+use Rattle.vx_model.specs.Contents.{Held, inode_for, parsed_of, fresh_root, unit_bytes, IsFormatted}
 use Rattle.vx_model.specs.LaidOut.{IsHeld, IsDirectoryNode, IsLaidOut}
-use Rattle.vx_model.proofs.Reading.{state_reads}
 
 module _ (w : Super) (limit sectors : ℕ) where
   abbrev new : State
@@ -39,16 +38,24 @@ module _ (w : Super) (limit sectors : ℕ) where
   none_below b zero = refl
   none_below b (suc n) = none_below b n
 
-  pub fresh_laid : IsSuper w → limit ≤ 1 → sectors_of (volume_of w) ≤ sectors → IsLaidOut new
+  pub fresh_laid : IsSuper w → limit ≤ 64 → sectors_of (volume_of w) ≤ sectors → IsLaidOut new
   fresh_laid is one room = record {
     nodes = λ n. elim (cases_eq n 2) [
       | inl e ↦ subst (λ (k : ℕ). IsHeld new.layout k (map.get new.tree.nodes k)) (sym e)
-          (subst (IsHeld new.layout 2) (sym root_node) ((lit≤ tt, refl), lit≤ tt, omega (arith, is.units_low)))
-      | inr ne ↦ subst (IsHeld new.layout n) (sym (no_node n ne)) refl
+          (subst (IsHeld new.layout 2) (sym root_node) (
+            record { mode = lit≤ tt; entries = refl; spelled = tt; few = omega arith; maps = refl; space = refl },
+            lit≤ tt,
+            omega (arith, is.units_low),
+          ))
+      | inr ne ↦ subst (IsHeld new.layout n) (sym (no_node n ne)) (record { none = refl; space = refl })
     ];
-    blocks = λ n. tt;
-    once = λ n m b has other. absurd cc;
-    not_pending = λ n b has. refl;
+    use_of_blocks = record {
+      once = λ n m b has other. absurd cc;
+      apart = λ n b. omega arith;
+      data_blocks = λ n b has. absurd cc;
+      not_pending = λ n b has. refl;
+      low = λ n b has. absurd cc;
+    };
     has_root = subst (λ (o : Option Node). IfThere o IsDirectoryNode) (sym root_node) tt;
     units = is.units_low;
     units_limit = is.units_high;
@@ -84,8 +91,10 @@ spare v s =
 
 -- ---- the sectors
 
-two_halves : replicate 256 0 ++ replicate 256 0 ≡ zero_sector
-unfolding zero_sector
+abbrev zeros : ℕ → List ℕ
+zeros n = replicate n 0
+
+two_halves : zeros 256 ++ zeros 256 ≡ zeros 512
 two_halves = refl
 
 or_none : (a c : Bool) → c ≡ false → (a || c) ≡ a
@@ -93,8 +102,7 @@ or_none true c h = refl
 or_none false c h = h
 
 -- a sector of a new unit that is neither the bitmap nor the root's
-zeros_there : (u i : ℕ) → i ≢ 0 → (u == 0 && i == 3) ≡ false → unit_bytes 2 u i ≡ zero_sector
-unfolding zero_sector
+zeros_there : (u i : ℕ) → i ≢ 0 → (u == 0 && i == 3) ≡ false → unit_bytes 2 u i ≡ zeros 512
 zeros_there u i ne other = let first : (i == 0) ≡ false = ne_eqb i 0 ne in rw (first, other) refl
 
 other_pair : (u i : ℕ) → (u ≡ 0 → i ≡ 3 → ⊥) → (u == 0 && i == 3) ≡ false
@@ -113,14 +121,18 @@ module _ (w : Super) (limit sectors : ℕ) (is_super : IsSuper w) (image : ℕ �
   abbrev p : Parsed
   p = parsed_of (fresh_of w limit sectors)
 
+  -- what an inode without blocks takes up
+  abbrev nothing : Held
+  nothing = record { extents = []; maps = []; size = 0 }
+
   unclaimed : (b : ℕ) → claim_of (fresh_of w limit sectors).layout b ≡ None
   unclaimed b = none_below w limit sectors b (128 * w.units)
 
   free : (n : ℕ) → n ≢ 2 → p.inodes n ≡ None
-  free n ne = ap (option_map (inode_for [])) (no_node w limit sectors n ne)
+  free n ne = ap (option_map (inode_for nothing)) (no_node w limit sectors n ne)
 
   root_inode : p.inodes 2 ≡ Some fresh_root
-  root_inode = ap (option_map (inode_for [])) (root_node w limit sectors)
+  root_inode = ap (option_map (inode_for nothing)) (root_node w limit sectors)
 
   abbrev Holds : ℕ → Place → Type 0
   Holds s q = IfSome (content v p q) (λ bytes. image s ≡ bytes)
@@ -146,7 +158,7 @@ module _ (w : Super) (limit sectors : ℕ) (is_super : IsSuper w) (image : ℕ �
       ap image start ∙ is (k / 64) (2 + k % 64) (omega arith) (omega arith) ∙ none ∙ sym two_halves
       ∙ (λ i. slot_bytes (sym (free (2 * k) (λ e. omega arith)) i) ++ slot_bytes (sym (free (2 * k + 1) (λ e. omega arith)) i))
 
-  blank_holds : (s : ℕ) → IsSpare v s → image s ≡ zero_sector
+  blank_holds : (s : ℕ) → IsSpare v s → image s ≡ zeros 512
   blank_holds s there =
       let from = there.from in
       let unit : (s - first * 2) / 8192 < w.units = there.unit in
@@ -166,12 +178,16 @@ module _ (w : Super) (limit sectors : ℕ) (is_super : IsSuper w) (image : ℕ �
         | inr ne ↦ free_holds s k at.0 ne at.1
       ]
   holds s (part b j) there at =
-      subst (λ (o : Option Claim). IfSome (option_map (λ es. sector_part j (dir_bytes 1024 es)) (option_map (λ (c : Claim). c.entries) o)) (λ bytes. image s ≡ bytes)) (sym (unclaimed b)) tt
+      subst (λ (o : Option Claim). IfSome (option_map (λ (x : Form). sector_part j (form_bytes 1024 x)) (option_and_then (λ (c : Claim). c.form) o)) (λ bytes. image s ≡ bytes)) (sym (unclaimed b)) tt
 
   pub fresh_stands : Stands v p image
   fresh_stands s = holds s (place_of v s) (spare v s) (place_is v s (record { some = lit< tt; even = refl }))
 
-pub fresh_reads : (w : Super) (image : ℕ → List ℕ) → IsSuper w → IsFormatted (volume_of w) image → ImageReadsAs (volume_of w) image empty_root
-fresh_reads w image is formatted =
+-- what an image that says a state reads as
+abbrev pub StateReads : Type 0
+StateReads = (s : State) (image : ℕ → List ℕ) → IsLaidOut s → Stands (volume s.layout) (parsed_of s) image → ImageReadsAs (volume s.layout) image s.tree
+
+pub fresh_reads : StateReads → (w : Super) (image : ℕ → List ℕ) → IsSuper w → IsFormatted (volume_of w) image → ImageReadsAs (volume_of w) image empty_root
+fresh_reads reads w image is formatted =
     let sectors : ℕ = sectors_of (volume_of w) in
-    state_reads (fresh_of w 1 sectors) image (fresh_laid w 1 sectors is (lit≤ tt) (omega arith)) (fresh_stands w 1 sectors is image formatted)
+    reads (fresh_of w 1 sectors) image (fresh_laid w 1 sectors is (lit≤ tt) (omega arith)) (fresh_stands w 1 sectors is image formatted)

@@ -1,17 +1,20 @@
--- No call frees a block: what it gives up waits.
+-- A block that held metadata waits before it may hold bytes.
 use Rattle.std.proofs.Common.{rules, ◌≡◌, ◌≢◌, ℕ, zero, suc, ◌-◌, ◌*◌, Bool, true, false, cond, List, [], ◌∷◌, ◌++◌, map, length, Option, Some, None, Ok, Err, refl, sym, ap, subst, ◌∙◌, inl, inr}
-use Rattle.std.specs.Prelude.{◌⊎◌, ◌+◌, ◌||◌, IfSome, ◌==◌, ◌&&◌, is_some, is_none, nat_le, nat_lt}
+use Rattle.std.specs.Prelude.{◌⊎◌, ◌+◌, ◌<◌, ◌||◌, IfSome, IsTrue, ◌==◌, is_none, nat_le, nat_lt}
 use Rattle.std.specs.FinMap as map
-use Rattle.std.proofs.lemmas.Bool.{eqb-true}
+use Rattle.std.proofs.lemmas.Bool.{eqb-true, ltb-true}
 use Rattle.vx_base.specs.Paths.{FileName}
 use Rattle.vx_base.specs.declared.call.Call.{Call}
 use Rattle.vx_base.specs.declared.call.Call.TheVariants as call
 use Rattle.vx_base.specs.declared.inode.DirEntry.{DirEntry}
 use Rattle.vx_base.specs.declared.refusal.Refusal.TheVariants as no
 use Rattle.vx_layout.specs.Places.{Volume, is_data}
-use Rattle.vx_model.specs.Outcome.{Maybe, ◌>>=◌, need}
+use Rattle.vx_extents.specs.Extents.{Mapped}
+use Rattle.vx_space.specs.Space.{page_blocks}
+use Rattle.vx_space.specs.Placing.{Filling}
+use Rattle.vx_model.specs.Outcome.{Maybe, ◌>>=◌}
 use Rattle.vx_model.specs.Tree.{Tree, Node, File, Directory, IsFile, IsDirectory}
-use Rattle.vx_model.specs.Layout.{DirectoryBlock, Layout, Claim, volume, blocks_at, block_numbers, claim_among, or_claim, claim_below, claim_of, is_free, has_room, behind, with_entry, with_blocks, new_block, with_new_block, filled_or_new, add_entry, without_name, pended, freed, kept_pending, released}
+use Rattle.vx_model.specs.Layout.{DirectoryBlock, Layout, volume, blocks_at, block_numbers, maps_at, space_at, pages_from, settled_at, has_room, behind, with_entry, with_blocks, block_of_page, next_block, with_last, with_new_block, filled_or_new, add_entry, without_name, pended, given_up, freed, kept_pending, released}
 use Rattle.vx_model.specs.State.{State, Done, settled}
 use Rattle.vx_model.specs.Walks.{directory_at, file_at}
 use Rattle.vx_model.specs.Edits.{with_nodes, with_name, add_name, add_name_in, remove_name, remove_name_in, set_node, drop_node}
@@ -23,65 +26,18 @@ use Rattle.vx_model.specs.Moving.{Move, enter, cleared, replace_directory, repla
 use Rattle.vx_model.specs.Naming.{list, stat, chmod}
 use Rattle.vx_model.specs.Step.{step}
 use Rattle.vx_model.specs.Legal.{with_released}
-use Rattle.vx_model.specs.Waiting.{Waits}
+use Rattle.vx_model.specs.LaidOut.{HoldsData, named}
+use Rattle.vx_model.specs.Waiting.{IsNamed, Waits}
 use Rattle.vx_model.specs.Images.{among}
-use Rattle.vx_model.proofs.Claims.{claimed}
-use Rattle.vx_model.proofs.Chains.{Always, bind_always, where_holds, then_always}
+use Rattle.vx_model.proofs.Chains.{Always, bind_always, where_holds, then_always, ok_always}
+use Rattle.vx_model.proofs.NextBlock.{IsNext, next_is}
+use Rattle.vx_model.proofs.Numbers.{either, in_left, in_right}
 
--- ---- claims from one layout to the next
+-- ---- the blocks of one inode
 
-abbrev IsAmong : ℕ → List DirectoryBlock → ℕ → Type 0
-IsAmong n ds b = is_some (claim_among n b ds) ≡ true
-
--- what a directory had it has still, or it waits
-abbrev Left : ℕ → Layout → Layout → ℕ → ℕ → Type 0
-Left place l new k b = IsAmong k (blocks_at l k) b → IsAmong k (blocks_at new k) b ⊎ (new.pending b ≡ Some place)
-
-either_some : (o rest : Option Claim) → is_some o ≡ true → is_some (or_claim o rest) ≡ true
-either_some None rest h = absurd cc
-either_some (Some c) rest h = refl
-
-rest_some : (o rest : Option Claim) → is_some rest ≡ true → is_some (or_claim o rest) ≡ true
-rest_some None rest h = h
-rest_some (Some c) rest h = refl
-
-left_by : (o rest o2 rest2 : Option Claim) (P : Type 0) → (is_some o ≡ true → (is_some o2 ≡ true) ⊎ P) → (is_some rest ≡ true → (is_some rest2 ≡ true) ⊎ P)
-    → is_some (or_claim o rest) ≡ true → (is_some (or_claim o2 rest2) ≡ true) ⊎ P
-left_by None rest o2 rest2 P here below h =
-    elim (below h) [
-      | inl c ↦ inl (rest_some o2 rest2 c)
-      | inr p ↦ inr p
-    ]
-left_by (Some c) rest o2 rest2 P here below h =
-    elim (here refl) [
-      | inl c ↦ inl (either_some o2 rest2 c)
-      | inr p ↦ inr p
-    ]
-
-left_below : (place : ℕ) (l new : Layout) (b : ℕ) → ((k : ℕ) → Left place l new k b) → (m : ℕ)
-    → is_some (claim_below l b m) ≡ true → (is_some (claim_below new b m) ≡ true) ⊎ (new.pending b ≡ Some place)
-unfolding claim_below
-left_below place l new b left zero h = absurd cc
-left_below place l new b left (suc m) h =
-    left_by (claim_among m b (blocks_at l m)) (claim_below l b m) (claim_among m b (blocks_at new m)) (claim_below new b m) (new.pending b ≡ Some place)
-    (left m) (left_below place l new b left m) h
-
--- ---- the blocks of one directory
-
--- no block that a directory had is missing
-abbrev Grows : List DirectoryBlock → List DirectoryBlock → Type 0
-Grows old new = (b : ℕ) → among (block_numbers old) b ≡ true → among (block_numbers new) b ≡ true
-
-same_grows : (old new : List DirectoryBlock) → block_numbers new ≡ block_numbers old → Grows old new
-same_grows old new same b h = ap (λ ns. among ns b) same ∙ h
-
-push_by : (t u : Bool) (ds : List DirectoryBlock) (d : DirectoryBlock) (b : ℕ) → (among (block_numbers ds) b ≡ true → u ≡ true) → (t || among (block_numbers ds) b) ≡ true → (t || u) ≡ true
-push_by true u ds d b more h = refl
-push_by false u ds d b more h = more h
-
-push_grows : (ds : List DirectoryBlock) (d : DirectoryBlock) → Grows ds (ds ++ d ∷ [])
-push_grows [] d b h = absurd cc
-push_grows (x ∷ ds) d b h = push_by (b == x.block) (among (block_numbers (ds ++ d ∷ [])) b) ds d b (push_grows ds d b) h
+-- no block of these is missing
+abbrev Grows : List ℕ → List ℕ → Type 0
+Grows old new = (b : ℕ) → among old b ≡ true → among new b ≡ true
 
 abbrev SameNumbers : List DirectoryBlock → Option (List DirectoryBlock) → Type 0
 SameNumbers old new = IfSome new (λ (blocks : List DirectoryBlock). block_numbers blocks ≡ block_numbers old)
@@ -103,24 +59,54 @@ without_same : (name : FileName) (ds : List DirectoryBlock) → block_numbers (m
 without_same name [] = refl
 without_same name (d ∷ ds) = ap (λ ns. d.block ∷ ns) (without_same name ds)
 
--- ---- one directory's blocks change
+pushed_numbers : (ds : List DirectoryBlock) (d : DirectoryBlock) → block_numbers (ds ++ d ∷ []) ≡ block_numbers ds ++ d.block ∷ []
+pushed_numbers [] d = refl
+pushed_numbers (x ∷ ds) d = ap (λ ns. x.block ∷ ns) (pushed_numbers ds d)
 
-grown_by : (l : Layout) (ino : ℕ) (blocks : List DirectoryBlock) (k b : ℕ) (t : Bool) → (k == ino) ≡ t → Grows (blocks_at l ino) blocks
-    → IsAmong k (blocks_at l k) b → IsAmong k (cond t blocks (blocks_at l k)) b
-grown_by l ino blocks k b true is more h =
-    let old : among (block_numbers (blocks_at l k)) b ≡ true = sym (claimed k b (blocks_at l k)) ∙ h in
-    claimed k b blocks ∙ more b (subst (λ (x : ℕ). among (block_numbers (blocks_at l x)) b ≡ true) (eqb-true k ino is) old)
-grown_by l ino blocks k b false is more h = h
+-- ---- what held metadata does so still
 
-with_waits : (place : ℕ) (s new : State) (ino : ℕ) (blocks : List DirectoryBlock) → Grows (blocks_at s.layout ino) blocks → new.layout ≡ with_blocks s.layout ino blocks → Waits place s new
-with_waits place s new ino blocks more is =
-    let Q : Layout → Type 0 = λ l. Waits place s (record { tree = new.tree; layout = l }) in
-    subst Q (sym is) (record {
-      same_volume = refl;
-      same_device = refl;
-      claimed = λ b h. left_below place s.layout (with_blocks s.layout ino blocks) b (λ k was. inl (grown_by s.layout ino blocks k b (k == ino) refl more was)) (128 * s.layout.units) h;
-      pending = λ b. inl refl;
-    })
+kept_by : (l : Layout) (ino n b : ℕ) (blocks : List DirectoryBlock) (maps : List ℕ) (t : Bool) → (n == ino) ≡ t → Grows (named l ino) (block_numbers blocks ++ maps)
+    → among (named l n) b ≡ true → among (block_numbers (cond t blocks (l.directories n)) ++ cond t maps (l.maps n)) b ≡ true
+kept_by l ino n b blocks maps true is more h = more b (subst (λ (k : ℕ). among (named l k) b ≡ true) (eqb-true n ino is) h)
+kept_by l ino n b blocks maps false is more h = h
+
+abbrev LayoutWaits : ℕ → State → Tree → Layout → Type 0
+LayoutWaits place s tree layout = Waits place s (record { tree = tree; layout = layout })
+
+-- a block more, and map blocks behind those that were there
+grows_with : (ds : List DirectoryBlock) (d : DirectoryBlock) (maps more now : List ℕ) → now ≡ maps ++ more → Grows (block_numbers ds ++ maps) (block_numbers (ds ++ d ∷ []) ++ now)
+grows_with ds d maps more now is b h = elim (either (block_numbers ds) maps b h) [
+  | inl there ↦
+      in_left (block_numbers (ds ++ d ∷ [])) now b (ap (λ ns. among ns b) (pushed_numbers ds d) ∙ in_left (block_numbers ds) (d.block ∷ []) b there)
+  | inr there ↦ in_right (block_numbers (ds ++ d ∷ [])) now b (ap (λ ns. among ns b) is ∙ in_left maps more b there)
+]
+
+-- one directory has a block more
+grown_waits : (place : ℕ) (s : State) (tree : Tree) (ino : ℕ) (e : DirEntry) (f : Filling) → IsNext s.layout ino f → LayoutWaits place s tree (with_last s.layout ino e f)
+grown_waits place s tree ino e f next = record {
+  same_volume = refl;
+  same_device = refl;
+  named = λ b h. inl (h.0, kept_by s.layout ino h.0 b (blocks_at s.layout ino ++ last ∷ []) f.maps (h.0 == ino) refl (grows_with (blocks_at s.layout ino) last (maps_at s.layout ino) next.more f.maps next.maps) h.1);
+  pending = λ b. inl refl;
+}
+  where
+    last : DirectoryBlock
+    last = record { block = block_of_page f.pages (length (blocks_at s.layout ino)); entries = e ∷ [] }
+
+numbers_by : (l : Layout) (ino n b : ℕ) (blocks : List DirectoryBlock) (t : Bool) → (n == ino) ≡ t → block_numbers blocks ≡ block_numbers (blocks_at l ino)
+    → among (named l n) b ≡ true → among (block_numbers (cond t blocks (l.directories n)) ++ l.maps n) b ≡ true
+numbers_by l ino n b blocks true is same h =
+    ap (λ (bs : List ℕ). among (bs ++ l.maps n) b) (same ∙ ap (λ (k : ℕ). block_numbers (blocks_at l k)) (sym (eqb-true n ino is))) ∙ h
+numbers_by l ino n b blocks false is same h = h
+
+-- one directory has other entries in the same blocks
+same_waits : (place : ℕ) (s : State) (tree : Tree) (ino : ℕ) (blocks : List DirectoryBlock) → block_numbers blocks ≡ block_numbers (blocks_at s.layout ino) → LayoutWaits place s tree (with_blocks s.layout ino blocks)
+same_waits place s tree ino blocks same = record {
+  same_volume = refl;
+  same_device = refl;
+  named = λ b h. inl (h.0, numbers_by s.layout ino h.0 b blocks (h.0 == ino) refl same h.1);
+  pending = λ b. inl refl;
+}
 
 -- ---- one edit after another
 
@@ -128,7 +114,7 @@ pub waits_same : (place : ℕ) (s new : State) → new.layout ≡ s.layout → W
 waits_same place s new is = record {
   same_volume = ap volume is;
   same_device = ap (λ (l : Layout). l.device_sectors) is;
-  claimed = λ b h. inl (ap (λ l. is_some (claim_of l b)) is ∙ h);
+  named = λ b h. inl (h.0, ap (λ l. among (named l h.0) b) is ∙ h.1);
   pending = λ b. inl (ap (λ (l : Layout). l.pending b) is);
 }
 
@@ -143,8 +129,8 @@ pub waits_next : (place : ℕ) (a b c : State) → Waits place a b → Waits pla
 waits_next place a b c w v = record {
   same_volume = v.same_volume ∙ w.same_volume;
   same_device = v.same_device ∙ w.same_device;
-  claimed = λ x h. elim (w.claimed x h) [
-    | inl still ↦ v.claimed x still
+  named = λ x h. elim (w.named x h) [
+    | inl still ↦ v.named x still
     | inr waits ↦ inr (waits_on place x b c v waits)
   ];
   pending = λ x. elim (v.pending x) [
@@ -158,25 +144,16 @@ waits_next place a b c w v = record {
 
 -- ---- the edits
 
-new_waits : (place : ℕ) (s : State) (tree : Tree) (ino : ℕ) (blocks : List DirectoryBlock) (layout : Layout) → Grows (blocks_at s.layout ino) blocks → layout ≡ with_blocks s.layout ino blocks
-    → Waits place s (record { tree = tree; layout = layout })
-new_waits place s tree ino blocks layout more is = with_waits place s (record { tree = tree; layout = layout }) ino blocks more is
-
-abbrev LayoutWaits : ℕ → State → Tree → Layout → Type 0
-LayoutWaits place s tree layout = Waits place s (record { tree = tree; layout = layout })
-
-block_waits : (place : ℕ) (s : State) (tree : Tree) (first ino : ℕ) (e : DirEntry) → Always (with_new_block s.layout first ino (blocks_at s.layout ino) e) (LayoutWaits place s tree)
+block_waits : (place : ℕ) (s : State) (tree : Tree) (first ino : ℕ) (e : DirEntry) → Always (with_new_block s.layout first ino e) (LayoutWaits place s tree)
 block_waits place s tree first ino e =
-    let blocks : List DirectoryBlock = blocks_at s.layout ino in
-    where_holds (nat_le (length blocks + 1) s.layout.directory_limit) (no.TooBig (1024 * (length blocks + 1))) _ (LayoutWaits place s tree)
-    (bind_always (need (new_block s.layout first blocks) (no.NoSpace 1 0)) _ (LayoutWaits place s tree)
-    (λ b. new_waits place s tree ino (blocks ++ record { block = b; entries = e ∷ [] } ∷ []) (with_blocks s.layout ino (blocks ++ record { block = b; entries = e ∷ [] } ∷ []))
-    (push_grows blocks (record { block = b; entries = e ∷ [] })) refl))
+    where_holds (nat_le (length (blocks_at s.layout ino) + 1) s.layout.directory_limit) (no.TooBig (1024 * (length (blocks_at s.layout ino) + 1))) _ (LayoutWaits place s tree)
+    (then_always (next_block s.layout first ino) (λ f. Ok (with_last s.layout ino e f)) (IsNext s.layout ino) (LayoutWaits place s tree)
+    (ok_always (next_block s.layout first ino) (IsNext s.layout ino) (next_is s.layout first ino)) (λ f next. grown_waits place s tree ino e f next))
 
 filled_waits : (place : ℕ) (s : State) (tree : Tree) (first ino : ℕ) (e : DirEntry) (o : Option (List DirectoryBlock)) → SameNumbers (blocks_at s.layout ino) o
-    → Always (filled_or_new s.layout first ino (blocks_at s.layout ino) e o) (LayoutWaits place s tree)
+    → Always (filled_or_new s.layout first ino e o) (LayoutWaits place s tree)
 filled_waits place s tree first ino e None same = block_waits place s tree first ino e
-filled_waits place s tree first ino e (Some filled) same = new_waits place s tree ino filled (with_blocks s.layout ino filled) (same_grows (blocks_at s.layout ino) filled same) refl
+filled_waits place s tree first ino e (Some filled) same = same_waits place s tree ino filled same
 
 entry_waits : (place : ℕ) (s : State) (tree : Tree) (first ino : ℕ) (e : DirEntry) → Always (add_entry s.layout first ino e) (LayoutWaits place s tree)
 entry_waits place s tree first ino e = filled_waits place s tree first ino e (with_entry (blocks_at s.layout ino) e) (entry_same (blocks_at s.layout ino) e)
@@ -193,8 +170,7 @@ add_waits place s at ino name = bind_always (directory_at s.tree.nodes at) (add_
 remove_in_waits : (place : ℕ) (s : State) (at : ℕ) (name : FileName) (m : Maybe Directory) → Waits place s (remove_name_in s at name m)
 remove_in_waits place s at name (Err why) = waits_same place s s refl
 remove_in_waits place s at name (Ok d) =
-    with_waits place s (remove_name_in s at name (Ok d)) at (map (without_name name) (blocks_at s.layout at))
-    (same_grows (blocks_at s.layout at) (map (without_name name) (blocks_at s.layout at)) (without_same name (blocks_at s.layout at))) refl
+    same_waits place s (remove_name_in s at name (Ok d)).tree at (map (without_name name) (blocks_at s.layout at)) (without_same name (blocks_at s.layout at))
 
 pub remove_waits : (place : ℕ) (s : State) (at : ℕ) (name : FileName) → Waits place s (remove_name s at name)
 remove_waits place s at name = remove_in_waits place s at name (directory_at s.tree.nodes at)
@@ -202,37 +178,52 @@ remove_waits place s at name = remove_in_waits place s at name (directory_at s.t
 pub set_waits : (place : ℕ) (s : State) (ino : ℕ) (node : Node) → Waits place s (set_node s ino node)
 set_waits place s ino node = waits_same place s (set_node s ino node) refl
 
--- what is given up waits
-pended_by : (place : ℕ) (o : Option ℕ) (d : DirectoryBlock) (ds : List DirectoryBlock) (b : ℕ) (t : Bool) → (among (block_numbers ds) b ≡ true → o ≡ Some place)
-    → (t || among (block_numbers ds) b) ≡ true → cond t (Some place) o ≡ Some place
-pended_by place o d ds b true rest h = refl
-pended_by place o d ds b false rest h = rest h
+-- ---- what is given up waits
 
-pended_here : (place : ℕ) (ds : List DirectoryBlock) (pending : ℕ → Option ℕ) (b : ℕ) → among (block_numbers ds) b ≡ true → pended place ds pending b ≡ Some place
-pended_here place [] pending b h = absurd cc
-pended_here place (d ∷ ds) pending b h = pended_by place (pended place ds pending b) d ds b (b == d.block) (pended_here place ds pending b) h
+pended_here : (place b : ℕ) (o : Option ℕ) (t : Bool) → t ≡ true → cond t (Some place) o ≡ Some place
+pended_here place b o true h = refl
+pended_here place b o false h = absurd cc
 
-either_by : (place : ℕ) (o was : Option ℕ) (t : Bool) → (o ≡ was) ⊎ (o ≡ Some place) → (cond t (Some place) o ≡ was) ⊎ (cond t (Some place) o ≡ Some place)
-either_by place o was true h = inr refl
-either_by place o was false h = h
+pended_else : (place : ℕ) (o : Option ℕ) (t : Bool) → (cond t (Some place) o ≡ o) ⊎ (cond t (Some place) o ≡ Some place)
+pended_else place o true = inr refl
+pended_else place o false = inl refl
 
-pended_else : (place : ℕ) (ds : List DirectoryBlock) (pending : ℕ → Option ℕ) (b : ℕ) → (pended place ds pending b ≡ pending b) ⊎ (pended place ds pending b ≡ Some place)
-pended_else place [] pending b = inl refl
-pended_else place (d ∷ ds) pending b = either_by place (pended place ds pending b) (pending b) (b == d.block) (pended_else place ds pending b)
+pages_named : (page b : ℕ) (ds : List DirectoryBlock) → among (page_blocks (pages_from page ds)) b ≡ among (block_numbers ds) b
+pages_named page b [] = refl
+pages_named page b (d ∷ ds) = ap (λ t. (b == d.block) || t) (pages_named (page + 1) b ds)
 
-dropped_by : (place : ℕ) (l : Layout) (ino k b : ℕ) (t : Bool) → (k == ino) ≡ t → IsAmong k (blocks_at l k) b
-    → IsAmong k (cond t [] (blocks_at l k)) b ⊎ (pended place (blocks_at l ino) l.pending b ≡ Some place)
-dropped_by place l ino k b true is h =
-    let old : among (block_numbers (blocks_at l k)) b ≡ true = sym (claimed k b (blocks_at l k)) ∙ h in
-    inr (pended_here place (blocks_at l ino) l.pending b (subst (λ (x : ℕ). among (block_numbers (blocks_at l x)) b ≡ true) (eqb-true k ino is) old))
-dropped_by place l ino k b false is h = inl h
+appended_pages : (ms ns : List Mapped) → page_blocks (ms ++ ns) ≡ page_blocks ms ++ page_blocks ns
+appended_pages [] ns = refl
+appended_pages (m ∷ ms) ns = ap (λ bs. m.block ∷ bs) (appended_pages ms ns)
+
+named_given_by : (l : Layout) (n b : ℕ) → (among (block_numbers (blocks_at l n)) b ≡ true) ⊎ (among (maps_at l n) b ≡ true) → among (given_up l n) b ≡ true
+named_given_by l n b (inl there) =
+    in_left (page_blocks (settled_at l n)) (maps_at l n) b
+    (ap (λ bs. among bs b) (appended_pages (pages_from 0 (blocks_at l n)) (space_at l n).settled)
+    ∙ in_left (page_blocks (pages_from 0 (blocks_at l n))) (page_blocks (space_at l n).settled) b (pages_named 0 b (blocks_at l n) ∙ there))
+named_given_by l n b (inr there) = in_right (page_blocks (settled_at l n)) (maps_at l n) b there
+
+-- an inode's metadata are among what it gives up
+named_given : (l : Layout) (n b : ℕ) → among (named l n) b ≡ true → among (given_up l n) b ≡ true
+named_given l n b h = named_given_by l n b (either (block_numbers (blocks_at l n)) (maps_at l n) b h)
+
+dropped_by : (place : ℕ) (s : State) (ino n b : ℕ) (t : Bool) → (n == ino) ≡ t → among (named s.layout n) b ≡ true
+    → (among (block_numbers (cond t [] (s.layout.directories n)) ++ cond t [] (s.layout.maps n)) b ≡ true) ⊎ (pended place (given_up s.layout ino) s.layout.pending b ≡ Some place)
+dropped_by place s ino n b true is h =
+    inr (pended_here place b (s.layout.pending b) (among (given_up s.layout ino) b) (named_given s.layout ino b (subst (λ (k : ℕ). among (named s.layout k) b ≡ true) (eqb-true n ino is) h)))
+dropped_by place s ino n b false is h = inl h
+
+named_still : (place : ℕ) (s : State) (ino n b : ℕ) → (among (named (freed s.layout place ino) n) b ≡ true) ⊎ ((freed s.layout place ino).pending b ≡ Some place)
+    → IsNamed (drop_node s place ino) b ⊎ ((freed s.layout place ino).pending b ≡ Some place)
+named_still place s ino n b (inl there) = inl (n, there)
+named_still place s ino n b (inr waits) = inr waits
 
 pub drop_waits : (place : ℕ) (s : State) (ino : ℕ) → Waits place s (drop_node s place ino)
 drop_waits place s ino = record {
   same_volume = refl;
   same_device = refl;
-  claimed = λ b h. left_below place s.layout (freed s.layout place ino) b (λ k was. dropped_by place s.layout ino k b (k == ino) refl was) (128 * s.layout.units) h;
-  pending = λ b. pended_else place (blocks_at s.layout ino) s.layout.pending b;
+  named = λ b h. named_still place s ino h.0 b (dropped_by place s ino h.0 b (h.0 == ino) refl h.1);
+  pending = λ b. pended_else place (s.layout.pending b) (among (given_up s.layout ino) b);
 }
 
 -- ---- the calls
@@ -343,48 +334,30 @@ module _ (s : State) (place : ℕ) where
   step_waits session call.Stop done h = of_step done (Ok (fine s)) h (waits_same place s s refl)
   step_waits session _ done h = absurd cc
 
--- ---- what is free
+-- ---- what may hold bytes
 
-free_parts : (t : Bool) (o : Option Claim) (p : Option ℕ) → (t && (is_none o && is_none p)) ≡ true → (t ≡ true) × (is_some o ≢ true) × (p ≡ None)
-free_parts true None None h = (refl, λ e. absurd cc, refl)
-free_parts true None (Some q) h = absurd cc
-free_parts true (Some c) p h = absurd cc
-free_parts false o p h = absurd cc
+not_both : (place : ℕ) (o : Option ℕ) → o ≡ None → o ≡ Some place → ⊥
+not_both place o none some = let e : None ≡ Some place = sym none ∙ some in absurd cc
 
-free_from : (t : Bool) (o : Option Claim) (p : Option ℕ) → t ≡ true → is_some o ≢ true → p ≡ None → (t && (is_none o && is_none p)) ≡ true
-free_from true None None t o p = refl
-free_from true None (Some q) t o p = absurd cc
-free_from true (Some c) p t o e = absurd (o refl)
-free_from false o p t ne e = absurd cc
+unwaiting : (place : ℕ) (o p : Option ℕ) → p ≡ None → (p ≡ o) ⊎ (p ≡ Some place) → o ≡ None
+unwaiting place o p none (inl same) = sym same ∙ none
+unwaiting place o p none (inr waits) = absurd (not_both place p none waits)
 
-some_none : (place : ℕ) (o : Option ℕ) → o ≡ None → o ≡ Some place → ⊥
-some_none place o none some = let e : None ≡ Some place = sym none ∙ some in absurd cc
+unnamed_by : (s new : State) (place n b : ℕ) (t : Bool) → among (named s.layout n) b ≡ t → Waits place s new → HoldsData new.layout b → t ≡ false
+unnamed_by s new place n b false is w holds = refl
+unnamed_by s new place n b true is w holds = elim (w.named b (n, is)) [
+  | inl there ↦ let no : true ≡ false = sym there.1 ∙ holds.unnamed there.0 in absurd cc
+  | inr waits ↦ absurd (not_both place (new.layout.pending b) holds.ready waits)
+]
 
-pending_none : (o : Option ℕ) → ((q : ℕ) → o ≡ Some q → ⊥) → o ≡ None
-pending_none None h = refl
-pending_none (Some q) h = absurd (h q refl)
-
-pub free_waits : (s new : State) (place b : ℕ) → Waits place s new → is_free new.layout b ≡ true → is_free s.layout b ≡ true
-unfolding is_free
-free_waits s new place b w h =
-    let p = free_parts (is_data (volume new.layout) b) (claim_of new.layout b) (new.layout.pending b) h in
-    free_from (is_data (volume s.layout) b) (claim_of s.layout b) (s.layout.pending b)
-    (ap (λ (v : Volume). is_data v b) (sym w.same_volume) ∙ p.0)
-    (λ c. elim (w.claimed b c) [
-      | inl still ↦ p.1 still
-      | inr waits ↦ some_none place (new.layout.pending b) p.2 waits
-    ])
-    (pending_none (s.layout.pending b) (λ q was. elim (w.pending b) [
-      | inl still ↦ some_none q (new.layout.pending b) p.2 (still ∙ was)
-      | inr waits ↦ some_none place (new.layout.pending b) p.2 waits
-    ]))
+pub stays : (s new : State) (place b : ℕ) → Waits place s new → HoldsData new.layout b → HoldsData s.layout b
+stays s new place b w holds = record {
+  data_block = subst (λ (v : Volume). IsTrue (is_data v b)) w.same_volume holds.data_block;
+  unnamed = λ n. unnamed_by s new place n b (among (named s.layout n) b) refl w holds;
+  ready = unwaiting place (s.layout.pending b) (new.layout.pending b) holds.ready (w.pending b);
+}
 
 -- ---- what waits for earlier events is released
-
-released_claim : (l : Layout) (upto b m : ℕ) → claim_below (released l upto) b m ≡ claim_below l b m
-unfolding claim_below
-released_claim l upto b zero = refl
-released_claim l upto b (suc m) = ap (or_claim (claim_among m b (blocks_at l m))) (released_claim l upto b m)
 
 keeps_by : (place : ℕ) (t : Bool) → t ≡ false → cond t None (Some place) ≡ Some place
 keeps_by place true h = absurd cc
@@ -397,17 +370,31 @@ waits_kept : (place : ℕ) (o p : Option ℕ) → (p ≡ o) ⊎ (p ≡ Some plac
 waits_kept place o p (inl same) = inl (ap (kept_pending place) same)
 waits_kept place o p (inr here) = inr (ap (kept_pending place) here ∙ keeps_own place)
 
+named_kept : (s new : State) (place b : ℕ) → IsNamed new b ⊎ (new.layout.pending b ≡ Some place) → IsNamed (with_released new place) b ⊎ ((with_released new place).layout.pending b ≡ Some place)
+named_kept s new place b (inl still) = inl still
+named_kept s new place b (inr waits) = inr (ap (kept_pending place) waits ∙ keeps_own place)
+
 -- the law holds of the states with what waited released
 released_waits : (s new : State) (place : ℕ) → Waits place s new → Waits place (with_released s place) (with_released new place)
 released_waits s new place w = record {
   same_volume = w.same_volume;
   same_device = w.same_device;
-  claimed = λ b h. elim (w.claimed b (ap is_some (sym (released_claim s.layout place b (128 * s.layout.units))) ∙ h)) [
-    | inl still ↦ inl (ap is_some (released_claim new.layout place b (128 * new.layout.units)) ∙ still)
-    | inr waits ↦ inr (ap (kept_pending place) waits ∙ keeps_own place)
-  ];
+  named = λ b h. named_kept s new place b (w.named b h);
   pending = λ b. waits_kept place (s.layout.pending b) (new.layout.pending b) (w.pending b);
 }
 
-pub released_free : (s new : State) (place b : ℕ) → Waits place s new → is_free (with_released new place).layout b ≡ true → is_free (with_released s place).layout b ≡ true
-released_free s new place b w h = free_waits (with_released s place) (with_released new place) place b (released_waits s new place w) h
+pub stays_released : (s new : State) (place b : ℕ) → Waits place s new → HoldsData (with_released new place).layout b → HoldsData (with_released s place).layout b
+stays_released s new place b w holds = stays (with_released s place) (with_released new place) place b (released_waits s new place w) holds
+
+-- a block that waited until the release
+ready_by : (upto q : ℕ) (t : Bool) → nat_lt q upto ≡ t → cond t None (Some q) ≡ None → q < upto
+ready_by upto q true is h = ltb-true q upto is
+ready_by upto q false is h = absurd cc
+
+released_ready : (s : State) (upto b : ℕ) (o : Option ℕ) → s.layout.pending b ≡ o → kept_pending upto o ≡ None → HoldsData (with_released s upto).layout b
+    → (HoldsData s.layout b) ⊎ ((place : ℕ) × (s.layout.pending b ≡ Some place) × (place < upto))
+released_ready s upto b None is ready holds = inl (record { data_block = holds.data_block; unnamed = holds.unnamed; ready = is })
+released_ready s upto b (Some q) is ready holds = inr (q, is, ready_by upto q (nat_lt q upto) refl ready)
+
+pub released_data : (s : State) (upto b : ℕ) → HoldsData (with_released s upto).layout b → (HoldsData s.layout b) ⊎ ((place : ℕ) × (s.layout.pending b ≡ Some place) × (place < upto))
+released_data s upto b holds = released_ready s upto b (s.layout.pending b) refl holds.ready holds

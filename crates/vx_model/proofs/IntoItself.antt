@@ -1,5 +1,5 @@
 -- When a rename is refused as one into itself.
-use Rattle.std.proofs.Common.{◌≡◌, ℕ, ◌+◌, ◌*◌, Bool, true, false, cond, List, [], ◌∷◌, ◌++◌, length, Option, Some, None, Ok, Err, refl, sym, ap, subst, ◌∙◌}
+use Rattle.std.proofs.Common.{◌≡◌, ℕ, zero, suc, ◌+◌, ◌-◌, ◌*◌, Bool, true, false, cond, List, [], ◌∷◌, ◌++◌, length, Option, Some, None, Ok, Err, refl, sym, ap, subst, ◌∙◌}
 use Rattle.std.specs.Prelude.{◌==◌, ◌&&◌, not, nat_le, bytes_eq}
 use Rattle.std.specs.FinMap as map
 use Rattle.std.proofs.lemmas.Bool.{and_parts}
@@ -13,9 +13,14 @@ use Rattle.vx_base.specs.declared.refusal.Refusal.{Refusal}
 use Rattle.vx_base.specs.declared.refusal.Refusal.TheVariants as no
 use Rattle.vx_base.specs.declared.reply.Reply.{Reply}
 use Rattle.vx_base.specs.declared.reply.Reply.TheVariants as say
+use Rattle.vx_base.specs.declared.kind.Kind.{Kind}
+use Rattle.vx_base.specs.declared.kind.Kind.TheVariants.{Data}
+use Rattle.vx_extents.specs.Extents.{mapped_at}
+use Rattle.vx_space.specs.Space.{Space, no_space, extents_in, maps_needed, most_extents}
+use Rattle.vx_space.specs.Placing.{Filling, Request, each_page, group_length, place_chain, place_group, place_maps, place_missing, place_page, takes_group, with_data, write_page}
 use Rattle.vx_model.specs.Outcome.{Maybe, unless, ◌>>=◌, need}
 use Rattle.vx_model.specs.Tree.{Nodes, Node, File, Directory, IsFile, IsDirectory}
-use Rattle.vx_model.specs.Layout.{Layout, DirectoryBlock, blocks_at, add_entry, filled_or_new, with_entry, with_new_block, with_blocks, new_block}
+use Rattle.vx_model.specs.Layout.{Layout, DirectoryBlock, blocks_at, add_entry, filled_or_new, with_entry, with_last, with_new_block, directory_filling, directory_request, next_block}
 use Rattle.vx_model.specs.State.{State, Done, settled}
 use Rattle.vx_model.specs.Paths.{PathEnd, path_end_from, path_end}
 use Rattle.vx_model.specs.Walks.{root, walk, names_of, node_at, directory_at, file_at, as_directory, as_file, step_to}
@@ -98,19 +103,47 @@ spares_entry nodes end = spares_bind (walk nodes root end.above) (entry_at nodes
     (λ at. spares_bind (directory_at nodes at) (entry_in at end.name) (spares_directory nodes at)
     (λ d. spares_bind (need (map.get d.entries end.name) no.NoEnt) (λ ino. Ok (record { at = at; name = end.name; ino = ino })) (spares_need (map.get d.entries end.name) no.NoEnt refl) (λ ino. tt)))
 
-spares_filled : (l : Layout) (first ino : ℕ) (blocks : List DirectoryBlock) (e : DirEntry) (o : Option (List DirectoryBlock)) → Spares (filled_or_new l first ino blocks e o)
-spares_filled l first ino blocks e (Some filled) = tt
-spares_filled l first ino blocks e None =
-    let put : ℕ → Maybe Layout = λ b. Ok (with_blocks l ino (blocks ++ record { block = b; entries = e ∷ [] } ∷ [])) in
-    spares_unless (nat_le (length blocks + 1) l.directory_limit) (no.TooBig (1024 * (length blocks + 1))) (need (new_block l first blocks) (no.NoSpace 1 0) >>= put) refl
-    (spares_bind (need (new_block l first blocks) (no.NoSpace 1 0)) put (spares_need (new_block l first blocks) (no.NoSpace 1 0) refl) (λ b. tt))
+-- ---- placing is refused for want of blocks or of room in the map
+
+spares_one : (r : Request) (kind : Kind) (p : ℕ) (f : Filling) (t : Bool)
+    → Spares (cond t (need (place_group r.volume r.attrs p f) (no.NoRun (group_length r.attrs.fixed p) r.longest)) (need (place_page r.volume r.first kind p f) (no.NoSpace r.need r.free)))
+spares_one r kind p f true = spares_need (place_group r.volume r.attrs p f) (no.NoRun (group_length r.attrs.fixed p) r.longest) refl
+spares_one r kind p f false = spares_need (place_page r.volume r.first kind p f) (no.NoSpace r.need r.free) refl
+
+spares_missing : (r : Request) (kind : Kind) (p : ℕ) (f : Filling) (o : Option (ℕ × Kind)) → Spares (place_missing r kind p f o)
+spares_missing r kind p f None = spares_one r kind p f (takes_group r.attrs f.pages p)
+spares_missing r kind p f (Some m) = tt
+
+spares_pages : (r : Request) (n p : ℕ) (f : Filling) → Spares (each_page (write_page r) n p f)
+spares_pages r zero p f = tt
+spares_pages r (suc n) p f = spares_bind (write_page r p f) (each_page (write_page r) n (p + 1))
+    (spares_bind (place_missing r Data p f (mapped_at f.pages p)) (λ placed. Ok (with_data p placed)) (spares_missing r Data p f (mapped_at f.pages p)) (λ placed. tt))
+    (λ g. spares_pages r n (p + 1) g)
+
+spares_chain : (r : Request) (x : Space) (f : Filling) → Spares (place_chain r x f)
+spares_chain r x f =
+    let all : Space = record x { present = f.pages } in
+    spares_unless (nat_le (extents_in all) most_extents) (no.MapFull (extents_in all)) (need (place_maps r.volume (maps_needed all - length f.maps) f) (no.NoSpace (r.need + (maps_needed all - length f.maps)) r.free)) refl
+    (spares_need (place_maps r.volume (maps_needed all - length f.maps) f) (no.NoSpace (r.need + (maps_needed all - length f.maps)) r.free) refl)
+
+spares_next : (l : Layout) (first ino : ℕ) → Spares (next_block l first ino)
+unfolding next_block
+spares_next l first ino = spares_bind (each_page (write_page (directory_request l first)) 1 (length (blocks_at l ino)) (directory_filling l ino)) (place_chain (directory_request l first) no_space)
+    (spares_pages (directory_request l first) 1 (length (blocks_at l ino)) (directory_filling l ino)) (spares_chain (directory_request l first) no_space)
+
+spares_filled : (l : Layout) (first ino : ℕ) (e : DirEntry) (o : Option (List DirectoryBlock)) → Spares (filled_or_new l first ino e o)
+spares_filled l first ino e (Some filled) = tt
+spares_filled l first ino e None =
+    let put : Filling → Maybe Layout = λ f. Ok (with_last l ino e f) in
+    spares_unless (nat_le (length (blocks_at l ino) + 1) l.directory_limit) (no.TooBig (1024 * (length (blocks_at l ino) + 1))) (next_block l first ino >>= put) refl
+    (spares_bind (next_block l first ino) put (spares_next l first ino) (λ f. tt))
 
 spares_add : (s : State) (at : ℕ) (name : FileName) (ino : ℕ) → Spares (add_name s at name ino)
 spares_add s at name ino = spares_bind (directory_at s.tree.nodes at) (add_name_in s at name ino) (spares_directory s.tree.nodes at)
     (λ d.
     let entry : DirEntry = record { ino = ino; name = name } in
     spares_bind (add_entry s.layout s.tree.tunables.initial_extent_size at entry) (λ layout. Ok (record { tree = with_nodes s.tree (map.insert s.tree.nodes at (with_name d name ino)); layout = layout }))
-    (spares_filled s.layout s.tree.tunables.initial_extent_size at (blocks_at s.layout at) entry (with_entry (blocks_at s.layout at) entry)) (λ layout. tt))
+    (spares_filled s.layout s.tree.tunables.initial_extent_size at entry (with_entry (blocks_at s.layout at) entry)) (λ layout. tt))
 
 spares_enter : (b : State) (m : Move) → Spares (enter b m)
 spares_enter b m = spares_bind (add_name b m.to m.name m.from.ino) (λ moved. Ok (fine moved)) (spares_add b m.to m.name m.from.ino) (λ moved. tt)

@@ -1,34 +1,22 @@
 -- What a name more leaves: the blocks with the entry in one of them, or with a new block.
-use Rattle.std.proofs.Common.{◌≡◌, ℕ, zero, suc, ◌+◌, ◌*◌, Bool, true, false, cond, List, [], ◌∷◌, ◌++◌, length, Option, Some, None, Ok, Err, refl, sym, ap, ◌∙◌, inl, inr, ◌⊎◌}
-use Rattle.std.specs.Prelude.{◌&&◌, nat_le, is_none}
+use Rattle.std.proofs.Common.{◌≡◌, ◌≢◌, ◌⊎◌, ℕ, zero, suc, ◌+◌, Bool, true, false, cond, List, [], ◌∷◌, ◌++◌, length, Option, Some, None, Ok, refl, sym, ap, subst, ◌∙◌, inl, inr}
+use Rattle.std.specs.Prelude.{nat_le, slice_get}
+use Rattle.std.specs.List.{AllByRecursion}
 use Rattle.std.specs.FinMap as map
+use Rattle.std.proofs.lemmas.List.{append_assoc}
 use Rattle.vx_base.specs.Paths.{FileName}
 use Rattle.vx_base.specs.declared.inode.DirEntry.{DirEntry}
-use Rattle.vx_base.specs.declared.refusal.Refusal.{Refusal}
-use Rattle.vx_base.specs.declared.refusal.Refusal.TheVariants as no
-use Rattle.std.proofs.lemmas.Bool.{and_parts}
-use Rattle.vx_layout.specs.Places.{Volume, is_data}
-use Rattle.vx_model.specs.Outcome.{Maybe, unless, ◌>>=◌, need}
-use Rattle.vx_model.specs.Placement.{are_all, lowest_of, or_else, run_start, longest_start, longest_run, page_place}
+use Rattle.vx_layout.specs.Dirs.{IsEntry, IsDir}
+use Rattle.vx_space.specs.Placing.{Filling}
+use Rattle.vx_model.specs.Outcome.{Maybe, ◌>>=◌}
 use Rattle.vx_model.specs.Tree.{Nodes, Node, Directory, IsFile, IsDirectory}
-use Rattle.vx_model.specs.Layout.{DirectoryBlock, Layout, volume, blocks_at, block_numbers, claim_of, is_free, has_room, behind, with_entry, with_blocks, last_block, new_block, filled_or_new, add_entry}
+use Rattle.vx_model.specs.Layout.{DirectoryBlock, Layout, blocks_at, block_numbers, has_room, room_place, behind, with_entry, with_blocks, next_block, with_last, filled_or_new, add_entry}
+use Rattle.vx_model.specs.LaidOut.{entries_of}
 use Rattle.vx_model.specs.State.{State}
 use Rattle.vx_model.specs.Walks.{node_at, as_directory, directory_at}
 use Rattle.vx_model.specs.Edits.{with_nodes, with_name, add_name_in, add_name}
-
--- ---- chains
-
-bind_ok : {A B : Type 0} (m : Maybe A) (rest : A → Maybe B) (y : B) → (m >>= rest) ≡ Ok y → (x : A) × (m ≡ Ok x) × (rest x ≡ Ok y)
-bind_ok (Ok x) rest y h = (x, refl, h)
-bind_ok (Err why) rest y h = absurd cc
-
-unless_ok : {A : Type 0} (t : Bool) (why : Refusal) (rest : Maybe A) (y : A) → unless t why rest ≡ Ok y → (t ≡ true) × (rest ≡ Ok y)
-unless_ok true why rest y h = (refl, h)
-unless_ok false why rest y h = absurd cc
-
-need_ok : {A : Type 0} (o : Option A) (why : Refusal) (x : A) → need o why ≡ Ok x → o ≡ Some x
-need_ok None why x h = absurd cc
-need_ok (Some y) why x h = let e : y ≡ x = cc in ap Some e
+use Rattle.vx_model.proofs.Chains.{bind_ok, unless_ok, need_ok}
+use Rattle.vx_model.proofs.EntryLists.{push_fits}
 
 ok_same : {A : Type 0} (x y : A) → ◌≡◌ {A = Maybe A} (Ok x) (Ok y) → y ≡ x
 ok_same x y h = let e : x ≡ y = cc in sym e
@@ -42,58 +30,77 @@ directory_there nodes at d h =
     let node = bind_ok (node_at nodes at) as_directory d h in
     need_ok (map.get nodes at) _ node.0 node.1 ∙ ap Some (directory_ok node.0 d node.2)
 
--- ---- a free block
+-- ---- an entry more in a block with room
 
-or_else_by : (o p : Option ℕ) (b : ℕ) (P : Type 0) → (o ≡ Some b → P) → (p ≡ Some b → P) → or_else o p ≡ Some b → P
-or_else_by None p b P this other h = other h
-or_else_by (Some x) p b P this other h = this h
+abbrev pub IsSpelled : DirectoryBlock → Type 0
+IsSpelled b = IsDir 1024 b.entries
 
-lowest_by : (test : ℕ → Bool) (more from b : ℕ) (t : Bool) → test from ≡ t → (lowest_of test more (from + 1) ≡ Some b → test b ≡ true)
-    → cond t (Some from) (lowest_of test more (from + 1)) ≡ Some b → test b ≡ true
-lowest_by test more from b true is next h = let e : from ≡ b = cc in ap test (sym e) ∙ is
-lowest_by test more from b false is next h = next h
+pub record IsFilled (ds : List DirectoryBlock) (e : DirEntry) (place : ℕ) (filled : List DirectoryBlock) : Type 0 where
+  pub numbers : block_numbers filled ≡ block_numbers ds
+  pub spelled : IsEntry e → AllByRecursion IsSpelled ds → AllByRecursion IsSpelled filled
+  pub others : (i : ℕ) → i ≢ place → slice_get filled i ≡ slice_get ds i
+  -- the entry stands somewhere among the others
+  pub pre : List DirEntry
+  pub post : List DirEntry
+  pub before : entries_of ds ≡ pre ++ post
+  pub after : entries_of filled ≡ pre ++ e ∷ post
 
-lowest_passes : (test : ℕ → Bool) (more from b : ℕ) → lowest_of test more from ≡ Some b → test b ≡ true
-lowest_passes test zero from b h = absurd cc
-lowest_passes test (suc more) from b h = lowest_by test more from b (test from) refl (lowest_passes test more (from + 1) b) h
+first_other : (d f : DirectoryBlock) (ds : List DirectoryBlock) (i : ℕ) → i ≢ 0 → slice_get (f ∷ ds) i ≡ slice_get (d ∷ ds) i
+first_other d f ds zero ne = absurd (ne refl)
+first_other d f ds (suc i) ne = refl
 
-module _ (v : Volume) (free : ℕ → Bool) where
-  run_free : (n b : ℕ) → run_start v free (suc n) ≡ Some b → free b ≡ true
-  unfolding run_start
-  run_free n b h = (and_parts _ _ (lowest_passes (λ x. are_all free x (suc n)) (4096 * v.units) v.first b h)).0
+further_other : (d : DirectoryBlock) (ds more : List DirectoryBlock) (place : ℕ) → ((i : ℕ) → i ≢ place → slice_get more i ≡ slice_get ds i) → (i : ℕ) → i ≢ suc place → slice_get (d ∷ more) i ≡ slice_get (d ∷ ds) i
+further_other d ds more place same zero ne = refl
+further_other d ds more place same (suc i) ne = same i (λ e. ne (ap suc e))
 
-  longest_free : (n b : ℕ) → longest_start v free n ≡ Some b → free b ≡ true
-  longest_free zero b h = absurd cc
-  longest_free (suc n) b h = or_else_by (run_start v free (suc n)) (longest_start v free n) b (free b ≡ true) (run_free n b) (longest_free n b) h
+behind_is : (d : DirectoryBlock) (ds filled : List DirectoryBlock) (e : DirEntry) (o : Option (List DirectoryBlock)) → ((more : List DirectoryBlock) → o ≡ Some more → IsFilled ds e (room_place ds e) more)
+    → behind d o ≡ Some filled → IsFilled (d ∷ ds) e (suc (room_place ds e)) filled
+behind_is d ds filled e None rest h = absurd cc
+behind_is d ds filled e (Some more) rest h =
+    let is : d ∷ more ≡ filled = cc in
+    let f = rest more refl in
+    subst (IsFilled (d ∷ ds) e (suc (room_place ds e))) is (record {
+      numbers = ap (λ ns. d.block ∷ ns) f.numbers;
+      spelled = λ entry all. (all.0, f.spelled entry all.1);
+      others = further_other d ds more (room_place ds e) f.others;
+      pre = d.entries ++ f.pre;
+      post = f.post;
+      before = ap (λ es. d.entries ++ es) f.before ∙ sym (append_assoc d.entries f.pre f.post);
+      after = ap (λ es. d.entries ++ es) f.after ∙ sym (append_assoc d.entries f.pre (e ∷ f.post));
+    })
 
-  after_free : (x b : ℕ) (t : Bool) → free x ≡ t → (longest_run v free ≡ Some b → free b ≡ true) → cond t (Some x) (longest_run v free) ≡ Some b → free b ≡ true
-  after_free x b true is other h = let e : x ≡ b = cc in ap free (sym e) ∙ is
-  after_free x b false is other h = other h
+first_is : (d : DirectoryBlock) (ds filled : List DirectoryBlock) (e : DirEntry) (t : Bool) → has_room d e ≡ t → ((more : List DirectoryBlock) → with_entry ds e ≡ Some more → IsFilled ds e (room_place ds e) more)
+    → cond t (Some (record d { entries = d.entries ++ e ∷ [] } ∷ ds)) (behind d (with_entry ds e)) ≡ Some filled → IsFilled (d ∷ ds) e (cond t 0 (suc (room_place ds e))) filled
+first_is d ds filled e true room rest h =
+    let is : record d { entries = d.entries ++ e ∷ [] } ∷ ds ≡ filled = cc in
+    subst (IsFilled (d ∷ ds) e 0) is (record {
+      numbers = refl;
+      spelled = λ entry all. (push_fits d.entries e all.0 entry room, all.1);
+      others = first_other d (record d { entries = d.entries ++ e ∷ [] }) ds;
+      pre = d.entries;
+      post = entries_of ds;
+      before = refl;
+      after = append_assoc d.entries (e ∷ []) (entries_of ds);
+    })
+first_is d ds filled e false room rest h = behind_is d ds filled e (with_entry ds e) rest h
 
-  place_free : (before : Option ℕ) (first b : ℕ) → page_place v free before (suc first) ≡ Some b → free b ≡ true
-  place_free (Some x) first b h = after_free (x + 1) b (free (x + 1)) refl (longest_free 4096 b) h
-  place_free None first b h = or_else_by (run_start v free (suc first)) (longest_run v free) b (free b ≡ true) (run_free first b) (longest_free 4096 b) h
+pub filled_is : (ds filled : List DirectoryBlock) (e : DirEntry) → with_entry ds e ≡ Some filled → IsFilled ds e (room_place ds e) filled
+filled_is [] filled e h = absurd cc
+filled_is (d ∷ ds) filled e h = first_is d ds filled e (has_room d e) refl (λ more. filled_is ds more e) h
 
--- a block that a directory gets is free
-new_free : (l : Layout) (first : ℕ) (blocks : List DirectoryBlock) (b : ℕ) → new_block l (suc first) blocks ≡ Some b → is_free l b ≡ true
-unfolding new_block
-new_free l first blocks b h = place_free (volume l) (is_free l) (last_block blocks) first b h
+-- where no block has room, the place is behind the last one
+nowhere_behind : (d : DirectoryBlock) (o : Option (List DirectoryBlock)) → behind d o ≡ None → o ≡ None
+nowhere_behind d None h = refl
+nowhere_behind d (Some more) h = absurd cc
 
-pub record IsFreeBlock (l : Layout) (b : ℕ) : Type 0 where
-  pub data_block : is_data (volume l) b ≡ true
-  pub unclaimed : claim_of l b ≡ None
-  pub not_pending : l.pending b ≡ None
+nowhere_by : (d : DirectoryBlock) (ds : List DirectoryBlock) (e : DirEntry) (t : Bool) → (with_entry ds e ≡ None → room_place ds e ≡ length ds)
+    → cond t (Some (record d { entries = d.entries ++ e ∷ [] } ∷ ds)) (behind d (with_entry ds e)) ≡ None → cond t 0 (suc (room_place ds e)) ≡ suc (length ds)
+nowhere_by d ds e true rest h = absurd cc
+nowhere_by d ds e false rest h = ap suc (rest (nowhere_behind d (with_entry ds e) h))
 
-none_is : {A : Type 0} (o : Option A) → is_none o ≡ true → o ≡ None
-none_is None h = refl
-none_is (Some x) h = absurd cc
-
-free_parts : (l : Layout) (b : ℕ) → is_free l b ≡ true → IsFreeBlock l b
-unfolding is_free
-free_parts l b h =
-    let two = and_parts (is_data (volume l) b) (is_none (claim_of l b) && is_none (l.pending b)) h in
-    let rest = and_parts (is_none (claim_of l b)) (is_none (l.pending b)) two.1 in
-    record { data_block = two.0; unclaimed = none_is (claim_of l b) rest.0; not_pending = none_is (l.pending b) rest.1 }
+pub nowhere : (ds : List DirectoryBlock) (e : DirEntry) → with_entry ds e ≡ None → room_place ds e ≡ length ds
+nowhere [] e h = refl
+nowhere (d ∷ ds) e h = nowhere_by d ds e (has_room d e) (nowhere ds e) h
 
 -- ---- an entry more
 
@@ -102,28 +109,21 @@ pub record Filled (l : Layout) (at : ℕ) (e : DirEntry) (after : Layout) : Type
   pub filled : with_entry (blocks_at l at) e ≡ Some blocks
   pub layout : after ≡ with_blocks l at blocks
 
-pub record Grown (l : Layout) (at : ℕ) (e : DirEntry) (after : Layout) : Type 0 where
-  pub block : ℕ
+pub record Grown (l : Layout) (first at : ℕ) (e : DirEntry) (after : Layout) : Type 0 where
+  pub full : with_entry (blocks_at l at) e ≡ None
   pub within : nat_le (length (blocks_at l at) + 1) l.directory_limit ≡ true
-  pub free : IsFreeBlock l block
-  pub layout : after ≡ with_blocks l at (blocks_at l at ++ record { block = block; entries = e ∷ [] } ∷ [])
+  pub filling : Filling
+  pub next : next_block l first at ≡ Ok filling
+  pub layout : after ≡ with_last l at e filling
 
-entry_by : (l after : Layout) (first at : ℕ) (e : DirEntry) (o : Option (List DirectoryBlock)) → with_entry (blocks_at l at) e ≡ o
-    → filled_or_new l (suc first) at (blocks_at l at) e o ≡ Ok after → Filled l at e after ⊎ Grown l at e after
+entry_by : (l after : Layout) (first at : ℕ) (e : DirEntry) (o : Option (List DirectoryBlock)) → with_entry (blocks_at l at) e ≡ o → filled_or_new l first at e o ≡ Ok after → Filled l at e after ⊎ Grown l first at e after
 entry_by l after first at e (Some blocks) is h = inl (record { blocks = blocks; filled = is; layout = ok_same (with_blocks l at blocks) after h })
 entry_by l after first at e None is h =
-    let place : Option ℕ = new_block l (suc first) (blocks_at l at) in
-    let grown : ℕ → Layout = λ b. with_blocks l at (blocks_at l at ++ record { block = b; entries = e ∷ [] } ∷ []) in
-    let within = unless_ok (nat_le (length (blocks_at l at) + 1) l.directory_limit) _ (need place (no.NoSpace 1 0) >>= (λ b. Ok (grown b))) after h in
-    let there = bind_ok (need place (no.NoSpace 1 0)) (λ b. Ok (grown b)) after within.1 in
-    inr (record {
-      block = there.0;
-      within = within.0;
-      free = free_parts l there.0 (new_free l first (blocks_at l at) there.0 (need_ok place _ there.0 there.1));
-      layout = ok_same (grown there.0) after there.2;
-    })
+    let two = unless_ok (nat_le (length (blocks_at l at) + 1) l.directory_limit) _ (next_block l first at >>= (λ f. Ok (with_last l at e f))) after h in
+    let placed = bind_ok (next_block l first at) (λ f. Ok (with_last l at e f)) after two.1 in
+    inr (record { full = is; within = two.0; filling = placed.0; next = placed.1; layout = ok_same (with_last l at e placed.0) after placed.2 })
 
-pub entry_added : (l after : Layout) (first at : ℕ) (e : DirEntry) → add_entry l (suc first) at e ≡ Ok after → Filled l at e after ⊎ Grown l at e after
+pub entry_added : (l after : Layout) (first at : ℕ) (e : DirEntry) → add_entry l first at e ≡ Ok after → Filled l at e after ⊎ Grown l first at e after
 entry_added l after first at e h = entry_by l after first at e (with_entry (blocks_at l at) e) refl h
 
 -- ---- a name more
@@ -147,24 +147,3 @@ name_added s new at ino name h =
       added = layout.1;
       state = ok_same (state_of layout.0) new layout.2;
     }
-
--- ---- an entry more leaves the blocks' numbers
-
-behind_numbers : (d : DirectoryBlock) (ds filled : List DirectoryBlock) (o : Option (List DirectoryBlock)) → ((more : List DirectoryBlock) → o ≡ Some more → block_numbers more ≡ block_numbers ds)
-    → behind d o ≡ Some filled → block_numbers filled ≡ block_numbers (d ∷ ds)
-behind_numbers d ds filled None same h = absurd cc
-behind_numbers d ds filled (Some more) same h =
-    let e : d ∷ more ≡ filled = cc in
-    ap block_numbers (sym e) ∙ ap (λ ns. d.block ∷ ns) (same more refl)
-
-first_numbers : (d : DirectoryBlock) (ds filled : List DirectoryBlock) (e : DirEntry) (t : Bool)
-    → ((more : List DirectoryBlock) → with_entry ds e ≡ Some more → block_numbers more ≡ block_numbers ds)
-    → cond t (Some (record d { entries = d.entries ++ e ∷ [] } ∷ ds)) (behind d (with_entry ds e)) ≡ Some filled → block_numbers filled ≡ block_numbers (d ∷ ds)
-first_numbers d ds filled e true same h =
-    let is : record d { entries = d.entries ++ e ∷ [] } ∷ ds ≡ filled = cc in
-    ap block_numbers (sym is)
-first_numbers d ds filled e false same h = behind_numbers d ds filled (with_entry ds e) same h
-
-pub filled_numbers : (ds filled : List DirectoryBlock) (e : DirEntry) → with_entry ds e ≡ Some filled → block_numbers filled ≡ block_numbers ds
-filled_numbers [] filled e h = absurd cc
-filled_numbers (d ∷ ds) filled e h = first_numbers d ds filled e (has_room d e) (λ more. filled_numbers ds more e) h

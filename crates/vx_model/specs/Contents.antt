@@ -1,66 +1,61 @@
 -- What an image of a state says.
-use Rattle.std.specs.Prelude.{◌≡◌, ℕ, ◌+◌, ◌*◌, ◌<◌, ◌==◌, ◌&&◌, nat_lt, List, [], ◌∷◌, ◌++◌, length, replicate, Option, Some, None, if◌then◌else◌}
-use Rattle.std.specs.Option.{option_map}
+use Rattle.std.specs.Prelude.{◌≡◌, ℕ, ◌+◌, ◌*◌, ◌<◌, ◌==◌, ◌&&◌, nat_lt, List, [], ◌∷◌, ◌++◌, length, replicate, slice_get, Option, Some, None, if◌then◌else◌}
+use Rattle.std.specs.Option.{option_map, option_and_then}
 use Rattle.std.specs.FinMap as map
 use Rattle.vx_base.specs.declared.kind.FileKind.TheVariants.{File, Directory}
-use Rattle.vx_base.specs.declared.kind.Kind.TheVariants.{Data}
 use Rattle.vx_base.specs.declared.inode.Extent.{Extent}
+use Rattle.vx_base.specs.declared.inode.Inode.{Inode}
 use Rattle.vx_base.specs.declared.inode.InodeValue.{InodeValue}
 use Rattle.vx_layout.specs.Places.{Volume, bitmap_sector, first_data, per_block}
 use Rattle.vx_layout.specs.Bits.{bits_bytes}
 use Rattle.vx_layout.specs.Inodes.{slot_bytes}
+use Rattle.vx_extents.specs.Extents.{stretches}
 use Rattle.vx_model.specs.Tree.{Node, IsFile, IsDirectory, no_attrs, new_directory}
-use Rattle.vx_model.specs.Layout.{DirectoryBlock, Claim, blocks_at, claim_of}
+use Rattle.vx_model.specs.Layout.{Layout, Claim, blocks_at, space_at, settled_at, settled_maps, first_of, claim_of}
+use Rattle.vx_model.specs.Shapes.{kept_attrs}
 use Rattle.vx_model.specs.State.{State}
 use Rattle.vx_model.specs.Images.{Parsed}
 
 -- ---- inodes
 
-abbrev pub one_block : DirectoryBlock → Extent
-one_block d = record { page = 0; start = d.block; len = 1; kind = Data }
+-- the six places for extents
+abbrev pub places : List Extent → List (Option Extent)
+places es = slice_get es 0 ∷ slice_get es 1 ∷ slice_get es 2 ∷ slice_get es 3 ∷ slice_get es 4 ∷ slice_get es 5 ∷ []
 
--- a directory has one block at most so far
-abbrev pub first_extent : List DirectoryBlock → Option Extent
-first_extent [] = None
-first_extent (d ∷ ds) = Some (one_block d)
+-- what the device says that an inode takes up: its extents, its map blocks, and its size in bytes
+pub record Held : Type 0 where
+  pub extents : List Extent
+  pub maps : List ℕ
+  pub size : ℕ
 
--- the six places for extents, of which only the first may have one
-abbrev pub places : Option Extent → List (Option Extent)
-places e = e ∷ None ∷ None ∷ None ∷ None ∷ None ∷ []
+abbrev pub settled_of : Layout → ℕ → Held
+settled_of l n = record { extents = stretches (settled_at l n); maps = settled_maps l n; size = 1024 * length (blocks_at l n) + (space_at l n).size }
 
--- the inode of a node with these directory blocks; a file has no block so far
-abbrev pub inode_for : List DirectoryBlock → Node → InodeValue
-inode_for blocks (IsFile f) = record {
-  inode = record { kind = File; mode = f.mode; nlink = f.nlink; size = length f.bytes; attrs = f.attrs };
-  maps = 0;
-  extents = 0;
-  first = places None;
-  map = None;
-}
-inode_for blocks (IsDirectory d) = record {
-  inode = record { kind = Directory; mode = d.mode; nlink = 1; size = 1024 * length blocks; attrs = no_attrs };
-  maps = 0;
-  extents = length blocks;
-  first = places (first_extent blocks);
-  map = None;
-}
+-- what an inode says that takes up so much
+abbrev pub value_of : Held → Inode → InodeValue
+value_of h inode = record { inode = inode; maps = length h.maps; extents = length h.extents; first = places h.extents; map = first_of h.maps }
+
+-- the inode of a node that takes up so much
+abbrev pub inode_for : Held → Node → InodeValue
+inode_for h (IsFile f) = value_of h (record { kind = File; mode = f.mode; nlink = f.nlink; size = h.size; attrs = kept_attrs f.attrs })
+inode_for h (IsDirectory d) = value_of h (record { kind = Directory; mode = d.mode; nlink = 1; size = h.size; attrs = no_attrs })
 
 abbrev pub inode_value : State → ℕ → Option InodeValue
-inode_value s n = option_map (inode_for (blocks_at s.layout n)) (map.get s.tree.nodes n)
+inode_value s n = option_map (inode_for (settled_of s.layout n)) (map.get s.tree.nodes n)
 
 -- ---- all of it
 
 abbrev pub parsed_of : State → Parsed
 parsed_of s = record {
   inodes = inode_value s;
-  blocks = λ b. option_map (λ (c : Claim). c.entries) (claim_of s.layout b);
+  forms = λ b. option_and_then (λ (c : Claim). c.form) (claim_of s.layout b);
   claims = λ b. option_map (λ (c : Claim). c.ino) (claim_of s.layout b);
 }
 
 -- ---- a new image
 
 abbrev pub fresh_root : InodeValue
-fresh_root = inode_for [] (new_directory 493)
+fresh_root = inode_for (record { extents = []; maps = []; size = 0 }) (new_directory 493)
 
 -- the bitmap of a new unit: its own block and those of the inodes are in use
 abbrev pub new_bitmap : (per_block : ℕ) → List ℕ

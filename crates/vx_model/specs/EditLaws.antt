@@ -1,5 +1,5 @@
 -- How the edits that calls are made of keep a state laid out, and what they touch.
-use Rattle.std.specs.Prelude.{◌≡◌, ◌≢◌, ℕ, ◌*◌, ◌<◌, ◌≤◌, true, List, [], Some, None, Ok}
+use Rattle.std.specs.Prelude.{◌≡◌, ◌≢◌, ℕ, ◌*◌, ◌<◌, ◌≤◌, true, List, Some, None, Ok}
 use Rattle.std.specs.List.{AllByRecursion}
 use Rattle.std.specs.FinMap as map
 use Rattle.vx_base.specs.Paths.{FileName, is_name}
@@ -13,24 +13,24 @@ use Rattle.vx_model.specs.Naming.{with_mode}
 use Rattle.vx_model.specs.Images.{content_at, IsBatch}
 use Rattle.vx_model.specs.Contents.{parsed_of}
 use Rattle.vx_model.specs.Legal.{with_released}
-use Rattle.vx_model.specs.LaidOut.{IsPlainFile, IsLaidOut}
-use Rattle.vx_model.specs.Touching.{Touched, IsTouched, HasTouched, untouched, joined, inode_touched, entries_touched, blocks_touched, units_of, name_touched}
+use Rattle.vx_model.specs.LaidOut.{HasNothing, IsPlainFile, IsLaidOut}
+use Rattle.vx_model.specs.Touching.{Touched, IsTouched, HasTouched, untouched, joined, inode_touched, entries_touched, name_touched, IsOnlyIn, drop_touched}
 
 pub record EditLaws : Type 0 where
   -- ---- a name more, under a new name
   pub added : (s new : State) (at ino : ℕ) (name : FileName) (d : Directory) → IsLaidOut s → map.get s.tree.nodes at ≡ Some (IsDirectory d) → is_name name ≡ true → map.get d.entries name ≡ None
       → ino < 128 * s.layout.units → add_name s at name ino ≡ Ok new → IsLaidOut new
-  pub added_touches : (s new : State) (at ino : ℕ) (name : FileName) → IsLaidOut s → add_name s at name ino ≡ Ok new → IsTouched s new (name_touched s new at)
+  pub added_touches : (s new : State) (at ino : ℕ) (name : FileName) → IsLaidOut s → add_name s at name ino ≡ Ok new → IsTouched s new (name_touched s new at (record { ino = ino; name = name }))
   -- ---- a name less
   pub removed : (s : State) (at : ℕ) (name : FileName) → IsLaidOut s → IsLaidOut (remove_name s at name)
-  pub removed_touches : (s : State) (at : ℕ) (name : FileName) → IsLaidOut s → IsTouched s (remove_name s at name) (entries_touched at)
+  pub removed_touches : (s : State) (at i : ℕ) (name : FileName) → IsLaidOut s → IsOnlyIn name i (blocks_at s.layout at) → IsTouched s (remove_name s at name) (entries_touched at i)
   -- ---- an inode
-  pub file_set : (s : State) (ino : ℕ) (f : File) → IsLaidOut s → IsPlainFile f → ino ≢ root → 2 ≤ ino → ino < 128 * s.layout.units → blocks_at s.layout ino ≡ [] → IsLaidOut (set_node s ino (IsFile f))
+  pub file_set : (s : State) (ino : ℕ) (f : File) → IsLaidOut s → IsPlainFile f → ino ≢ root → 2 ≤ ino → ino < 128 * s.layout.units → HasNothing s.layout ino → IsLaidOut (set_node s ino (IsFile f))
   pub directory_set : (s : State) (ino mode : ℕ) → IsLaidOut s → mode ≤ 4095 → 2 ≤ ino → ino < 128 * s.layout.units → map.get s.tree.nodes ino ≡ None → IsLaidOut (set_node s ino (new_directory mode))
   pub mode_set : (s : State) (ino mode : ℕ) (node : Node) → IsLaidOut s → mode ≤ 4095 → map.get s.tree.nodes ino ≡ Some node → IsLaidOut (set_node s ino (with_mode mode node))
   pub set_touches : (s : State) (ino : ℕ) (node : Node) → IsTouched s (set_node s ino node) (inode_touched ino)
   pub dropped : (s : State) (place ino : ℕ) → IsLaidOut s → ino ≢ root → IsLaidOut (drop_node s place ino)
-  pub dropped_touches : (s : State) (place ino : ℕ) → IsLaidOut s → IsTouched s (drop_node s place ino) (blocks_touched ino (units_of s ino))
+  pub dropped_touches : (s : State) (place ino : ℕ) → IsLaidOut s → IsTouched s (drop_node s place ino) (drop_touched s ino)
   -- ---- the blocks that wait
   pub released : (s : State) (upto : ℕ) → IsLaidOut s → IsLaidOut (with_released s upto)
   pub released_says : (s : State) (upto : ℕ) → parsed_of (with_released s upto) ≡ parsed_of s

@@ -1,44 +1,14 @@
--- What the metadata sectors of a volume hold. What an image says determines each of them by one function.
-use Rattle.std.specs.Prelude.{◌≡◌, ℕ, ◌+◌, ◌*◌, Bool, false, ◌||◌, ◌==◌, nat_lt, List, [], ◌∷◌, ◌++◌, replicate, Option, Some, None, is_some, IsTrue, IfSome}
-use Rattle.std.specs.Option.{option_map, unwrap_or}
-use Rattle.std.specs.List.{list_any, AllByRecursion}
-use Rattle.vx_base.specs.declared.inode.InodeValue.{InodeValue}
-use Rattle.vx_base.specs.declared.inode.DirEntry.{DirEntry}
-use Rattle.vx_layout.specs.Places.{Volume, Place, outside, blank, bits, slots, part, per_block, unit_block, first_data, place_of, sector_part}
-use Rattle.vx_layout.specs.Bits.{bits_bytes}
-use Rattle.vx_layout.specs.Inodes.{slot_bytes}
-use Rattle.vx_layout.specs.Dirs.{dir_bytes}
+-- What the metadata sectors of a volume hold. What an image says determines each of them by one function (docs/LAYOUT.md).
+use Rattle.std.specs.Prelude.{◌≡◌, ℕ, Bool, false, ◌||◌, ◌==◌, List, [], ◌∷◌, Option, Some, is_some, IsTrue, IfSome}
+use Rattle.std.specs.Option.{unwrap_or}
+use Rattle.std.specs.List.{AllByRecursion}
+use Rattle.vx_layout.specs.Places.{Volume, place_of}
 use Rattle.vx_layout.specs.LogForms.{AfterImage, overlay, LogState}
-
--- Exactly what an image says, by number: the inodes in use, the entries of the directory blocks, and which inode has each
--- data block in use. These are functions and not maps, so that the model's state says each in a line, whatever it is kept in;
--- a map is one by its `get`.
-pub record Parsed : Type 0 where
-  pub inodes : ℕ → Option InodeValue
-  pub blocks : ℕ → Option (List DirEntry)
-  pub claims : ℕ → Option ℕ
-
--- block j of a unit is in use: the bitmap and the inodes always, and a data block where an inode has it
-abbrev pub used_in : Volume → Parsed → ℕ → ℕ → Bool
-used_in v p u j = nat_lt j (first_data (per_block v)) || is_some (p.claims (unit_block v u + j))
-
-unfoldable pub zero_sector : List ℕ
-zero_sector = replicate 512 0
-
--- what stands at a place, where the metadata say so
-abbrev pub content : Volume → Parsed → Place → Option (List ℕ)
-content v p outside = None
-content v p blank = Some zero_sector
-content v p (bits u) = Some (bits_bytes (used_in v p u))
-content v p (slots k) = Some (slot_bytes (p.inodes (2 * k)) ++ slot_bytes (p.inodes (2 * k + 1)))
-content v p (part b index) = option_map (λ es. sector_part index (dir_bytes v.block es)) (p.blocks b)
+pub use Rattle.vx_sound.specs.Said.{among}
+pub use Rattle.vx_sound.specs.Reading.{Parsed, Stands, content}
 
 abbrev pub content_at : Volume → Parsed → ℕ → Option (List ℕ)
 content_at v p s = content v p (place_of v s)
-
--- the image holds, at each metadata sector, what is said
-abbrev pub Stands : Volume → Parsed → (ℕ → List ℕ) → Type 0
-Stands v p image = (s : ℕ) → IfSome (content_at v p s) (λ bytes. image s ≡ bytes)
 
 -- which sectors hold metadata, and what they hold
 abbrev pub is_metadata : Volume → Parsed → ℕ → Bool
@@ -53,9 +23,6 @@ pub record Says (v : Volume) (p : Parsed) (r : LogState) : Type 0 where
   pub bytes : (s : ℕ) → IsTrue (is_metadata v p s) → r.contents s ≡ contents v p s
 
 -- ---- a batch of after-images
-
-abbrev pub among : List ℕ → ℕ → Bool
-among xs x = list_any (λ y. x == y) xs
 
 abbrev pub sectors_in : List AfterImage → ℕ → Bool
 sectors_in [] s = false

@@ -3,7 +3,6 @@ pub mod Tree
 pub mod Codes
 pub mod Paths
 pub mod Walks
-pub mod Placement
 pub mod Layout
 pub mod State
 pub mod Edits
@@ -19,6 +18,7 @@ pub mod Images
 pub mod Reads
 pub mod Contents
 pub mod LaidOut
+pub mod Saying
 pub mod Touching
 pub mod EditLaws
 pub mod NameLaws

@@ -3,9 +3,14 @@ use Rattle.std.specs.Prelude.{ℕ, false, [], None, Ok, Err}
 use Rattle.vx_base.specs.declared.reply.Reply.{Reply}
 use Rattle.vx_base.specs.declared.reply.Reply.TheVariants as say
 use Rattle.vx_layout.specs.declared.superblock.Super.{Super}
+use Rattle.vx_space.specs.Space.{no_space}
 use Rattle.vx_model.specs.Outcome.{Maybe}
 use Rattle.vx_model.specs.Tree.{Tree, empty_root}
 use Rattle.vx_model.specs.Layout.{Layout}
+
+-- the most blocks that a directory has
+abbrev pub directory_blocks : ℕ
+directory_blocks = 64
 
 pub record State : Type 0 where
   pub tree : Tree
@@ -31,6 +36,8 @@ fresh_of v directory_limit device_sectors = record {
     device_sectors = device_sectors;
     directory_limit = directory_limit;
     directories = λ n. [];
+    files = λ n. no_space;
+    maps = λ n. [];
     pending = λ b. None;
   };
 }

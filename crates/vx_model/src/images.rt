@@ -4,9 +4,9 @@ ghost use Rattle.std.specs.Option.{option_map};
 ghost use Rattle.vx_layout.specs.Places.{Volume, outside, per_block, block_sector, bitmap_sector, inode_sector, is_data, place_of, IsVolume, sector_part};
 ghost use Rattle.vx_layout.specs.Bits.{bits_bytes};
 ghost use Rattle.vx_layout.specs.Inodes.{slot_bytes};
-ghost use Rattle.vx_layout.specs.Dirs.{dir_bytes};
 ghost use Rattle.vx_layout.specs.LogForms.{AfterImage, overlay, overlay_all, LogState, ReadsAs};
-ghost use Rattle.vx_model.specs.Images.{Parsed, content_at, Stands, is_metadata, contents, IsBatch, Says, used_in};
+ghost use Rattle.vx_sound.specs.Reading.{form_bytes, used_in};
+ghost use Rattle.vx_model.specs.Images.{Parsed, content_at, Stands, is_metadata, contents, IsBatch, Says};
 
 /// What is said stands where each metadata sector has its contents.
 pub fn metadata()
@@ -30,5 +30,5 @@ pub fn sector_contents()
     ensures inodes { (v : Volume) (p : Parsed) (n : ℕ) → IsVolume v → n < 128 * v.units
         → content_at v p (inode_sector v n) ≡ Some (slot_bytes (p.inodes (2 * (n / 2))) ++ slot_bytes (p.inodes (2 * (n / 2) + 1))) }
     ensures parts { (v : Volume) (p : Parsed) (b i : ℕ) → IsVolume v → IsTrue (is_data v b) → i < per_block v
-        → content_at v p (block_sector (per_block v) b + i) ≡ option_map (λ es. sector_part i (dir_bytes v.block es)) (p.blocks b) }
+        → content_at v p (block_sector (per_block v) b + i) ≡ option_map (λ x. sector_part i (form_bytes v.block x)) (p.forms b) }
 {}

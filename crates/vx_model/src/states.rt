@@ -1,33 +1,52 @@
 //! What an image of each state says.
-ghost use Rattle.std.specs.Prelude.{◌≡◌, ◌*◌, ◌<◌, ◌≤◌, ℕ, List, [], ◌∷◌, Some, None};
+ghost use Rattle.std.specs.Prelude.{◌≡◌, ◌*◌, ◌<◌, ◌≤◌, ℕ, List, is_some, slice_get, Some, None};
 ghost use Rattle.std.specs.FinMap as map;
 ghost use Rattle.vx_layout.specs.Places.{sectors_of};
 ghost use Rattle.vx_layout.specs.Supers.{IsSuper, volume_of};
 ghost use Rattle.vx_layout.specs.declared.superblock.Super.{Super};
+ghost use Rattle.vx_sound.specs.Reading.{Entries};
 ghost use Rattle.vx_model.specs.Tree.{Nodes, empty_root, lowest_unused};
-ghost use Rattle.vx_model.specs.State.{State, fresh_of};
-ghost use Rattle.vx_model.specs.Layout.{DirectoryBlock, volume, blocks_at, claim_of};
+ghost use Rattle.vx_model.specs.State.{State, directory_blocks, fresh_of};
+ghost use Rattle.vx_model.specs.Layout.{Claimed, DirectoryBlock, volume, blocks_at, chain_at, claimed_at, claim_of, is_owned};
 ghost use Rattle.vx_model.specs.Images.{Stands};
 ghost use Rattle.vx_model.specs.Reads.{ImageReadsAs};
 ghost use Rattle.vx_model.specs.Contents.{parsed_of, IsFormatted};
 ghost use Rattle.vx_model.specs.LaidOut.{IsLaidOut};
+ghost use Rattle.vx_model.specs.Saying.{StateSays};
+
+use vx_sound::decoding_laws;
 
 /// An image that says a state reads as the state's tree.
 pub fn state_reads()
     ensures { (s : State) (image : ℕ → List ℕ) → IsLaidOut s → Stands (volume s.layout) (parsed_of s) image → ImageReadsAs (volume s.layout) image s.tree }
-{}
+{
+    state_says();
+}
 
 /// A formatted image, of any sizes that a superblock may say, says the fresh state, and so it reads as the root alone.
 pub fn fresh_reads()
-    ensures laid_out { (v : Super) (limit device_sectors : ℕ) → IsSuper v → limit ≤ 1 → sectors_of (volume_of v) ≤ device_sectors → IsLaidOut (fresh_of v limit device_sectors) }
+    ensures laid_out { (v : Super) (limit device_sectors : ℕ) → IsSuper v → limit ≤ directory_blocks → sectors_of (volume_of v) ≤ device_sectors → IsLaidOut (fresh_of v limit device_sectors) }
     ensures stands { (v : Super) (limit device_sectors : ℕ) (image : ℕ → List ℕ) → IsSuper v → IsFormatted (volume_of v) image → Stands (volume_of v) (parsed_of (fresh_of v limit device_sectors)) image }
     ensures reads { (v : Super) (image : ℕ → List ℕ) → IsSuper v → IsFormatted (volume_of v) image → ImageReadsAs (volume_of v) image empty_root }
+{
+    state_reads();
+}
+
+/// A block that the device says an inode has is that inode's alone.
+pub fn claims()
+    ensures claimed { (s : State) (n k : ℕ) (c : Claimed) → IsLaidOut s → slice_get (claimed_at s.layout n) k ≡ Some c → claim_of s.layout c.block ≡ Some (record { ino = n; form = c.form }) }
+    ensures block { (s : State) (n i : ℕ) (d : DirectoryBlock) → IsLaidOut s → slice_get (blocks_at s.layout n) i ≡ Some d → claim_of s.layout d.block ≡ Some (record { ino = n; form = Some (Entries d.entries) }) }
+    ensures map_block { (s : State) (n k : ℕ) (c : Claimed) → IsLaidOut s → slice_get (chain_at s.layout n) k ≡ Some c → claim_of s.layout c.block ≡ Some (record { ino = n; form = c.form }) }
+    ensures owned { (s : State) (b : ℕ) → IsLaidOut s → is_some (claim_of s.layout b) ≡ is_owned s.layout b }
 {}
 
-/// A block of a directory is that directory's, with its entries.
-pub fn claims()
-    ensures { (s : State) (n : ℕ) (d : DirectoryBlock) → IsLaidOut s → blocks_at s.layout n ≡ d ∷ [] → claim_of s.layout d.block ≡ Some (record { ino = n; entries = d.entries }) }
-{}
+/// What a sound reading finds in an image that says a state: each inode with its extents, blocks, map blocks and entries.
+pub fn state_says()
+    ensures { StateSays }
+{
+    claims();
+    decoding_laws();
+}
 
 /// The lowest unused inode number is unused, if there is one.
 pub fn unused_inodes()

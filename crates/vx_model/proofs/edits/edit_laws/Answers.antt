@@ -6,7 +6,7 @@ use Rattle.vx_model.proofs.edits.edit_laws.Goals as goal
 
 pub returns : goal.returns
 returns c = record {
-  added = names.added;
+  added = names.added c.place_laws.ensures;
   added_touches = touches.added_touches;
   removed = names.removed;
   removed_touches = touches.removed_touches;
@@ -19,6 +19,9 @@ returns c = record {
   released = keeps.released_laid;
   released_says = touches.released_says;
   same = touches.same;
-  next = touches.next;
-  batch = λ old new t batch before after is right has. touched_batch old new t batch before after is has right;
+  next = touches.next_edit;
+  batch = λ old new t batch before after is right has. touched_batch old new t batch (record {
+    block = λ n i d there. c.claims.ensures.block old n i d before there;
+    map_block = λ n k x there. c.claims.ensures.map_block old n k x before there;
+  }) is has right;
 }

@@ -1,4 +1,4 @@
-use Rattle.vx_model.proofs.Determined as laws
+use Rattle.vx_model.proofs.Replaying as laws
 use Rattle.vx_model.proofs.reads.reads_once.Goals as goal
 
 pub returns : goal.returns

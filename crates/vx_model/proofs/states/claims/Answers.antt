@@ -1,5 +1,14 @@
-use Rattle.vx_model.proofs.Claims as laws
+use Rattle.vx_model.proofs.Claims.{claim_law, block_law, map_law, owned_law}
 use Rattle.vx_model.proofs.states.claims.Goals as goal
 
-pub returns : goal.returns
-returns c = laws.one_claims
+pub returns-clause-claimed : goal.returns-clause-claimed
+returns-clause-claimed c s n k it is at = claim_law s is n k it at
+
+pub returns-clause-block : goal.returns-clause-block
+returns-clause-block c s n i d is at = block_law s is n i d at
+
+pub returns-clause-map_block : goal.returns-clause-map_block
+returns-clause-map_block c s n k it is at = map_law s is n k it at
+
+pub returns-clause-owned : goal.returns-clause-owned
+returns-clause-owned c s b is = owned_law s is b

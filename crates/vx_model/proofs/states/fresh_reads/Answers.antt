@@ -8,4 +8,4 @@ pub returns-clause-stands : goal.returns-clause-stands
 returns-clause-stands c = λ v limit sectors image is formatted. laws.fresh_stands v limit sectors is image formatted
 
 pub returns-clause-reads : goal.returns-clause-reads
-returns-clause-reads c = laws.fresh_reads
+returns-clause-reads c = laws.fresh_reads c.state_reads.ensures

@@ -1,5 +1,5 @@
-use Rattle.vx_model.proofs.Reading as laws
+use Rattle.vx_model.proofs.StateReads as laws
 use Rattle.vx_model.proofs.states.state_reads.Goals as goal
 
 pub returns : goal.returns
-returns c = laws.state_reads
+returns c = λ s image is stands. laws.state_reads c.state_says.ensures s image (record { laid_out = is; stands = stands })
