@@ -13,7 +13,6 @@ use Rattle.vx_base.specs.declared.reply.Reply.TheVariants as say
 use Rattle.vx_sound.specs.Facts.{is_legal}
 use Rattle.vx_model.specs.Outcome.{Maybe, unless, ◌>>=◌, need}
 use Rattle.vx_model.specs.Tree.{Nodes, Node, File, Directory, IsFile, IsDirectory, lowest_unused, new_file, new_directory, no_attrs}
-use Rattle.vx_model.specs.Layout.{blocks_at}
 use Rattle.vx_model.specs.State.{State, Done, settled}
 use Rattle.vx_model.specs.Paths.{PathEnd, path_end}
 use Rattle.vx_model.specs.Walks.{root, walk, names_of, node_at, directory_at, file_at, as_file}
@@ -27,12 +26,15 @@ use Rattle.vx_model.specs.Moving.{is_below, Move, enter, cleared, replace_direct
 use Rattle.vx_model.specs.Naming.{with_mode, list_at, list_along, list, stat_at, stat_along, stat, chmod_at, chmod_along, chmod}
 use Rattle.vx_model.specs.Step.{step}
 use Rattle.vx_model.specs.NameLaws.{meaning_in, lookup, HasLinks}
-use Rattle.vx_model.specs.LaidOut.{IsPlainFile, IsLaidOut}
+use Rattle.vx_model.specs.LaidOut.{HasNothing, IsPlainFile, IsLaidOut}
+use Rattle.vx_model.proofs.Chains.{need_ok}
+use Rattle.vx_model.proofs.EditKeeps.{node_held, nothing_held}
+use Rattle.vx_model.proofs.NameEdits.{directory_there}
 use Rattle.vx_wellformed.specs.WellFormed.{HasNames, HasMode}
-use Rattle.vx_wellformed.proofs.Chains.{Always, bind, where_true, need_ok}
+use Rattle.vx_wellformed.proofs.Chains.{Always, bind, where_true, always_ok}
 use Rattle.vx_wellformed.proofs.Legality.{names_legal, end_legal}
 use Rattle.vx_wellformed.proofs.Naming.{not_root}
-use Rattle.vx_wellformed.proofs.Edits.{IsWhole, IsAbsent, held, no_blocks, holds_file, directory_there, absent_there, adds, added_whole, adds_units, adds_blocks, IsLess, removed_less, dropped_less, unlinked_less, less_whole, itself, removes, drop_lessens, unlinked_absent}
+use Rattle.vx_wellformed.proofs.Edits.{IsWhole, IsAbsent, holds_file, absent_there, nothing_same, adds, added_whole, IsLess, removed_less, dropped_less, unlinked_less, less_whole, itself, removes, drop_lessens, unlinked_absent}
 
 file_is : (node : Node) (f : File) → as_file node ≡ Ok f → node ≡ IsFile f
 file_is (IsFile x) f h = let e : x ≡ f = cc in ap IsFile e
@@ -61,10 +63,6 @@ end_means nodes end =
 along_means : (nodes : Nodes) (why : Refusal) (names : List FileName) → Always (Means nodes) (entry_along nodes why names)
 along_means nodes why names = bind (Means nodes) (need (path_end names) why) (entry_end nodes) (λ end last. end_means nodes end)
 
-known : {A : Type 0} (P : A → Type 0) (m : Maybe A) (x : A) → Always P m → m ≡ Ok x → P x
-known P (Ok y) x h e = let same : y ≡ x = cc in subst P same h
-known P (Err why) x h e = absurd cc
-
 -- what a call leaves: a state whose names are legal and distinct, and that is laid out if its mode fits
 pub record Leaves (Fits : Type 0) (s : State) : Type 0 where
   pub laid_out : Fits → IsLaidOut s
@@ -78,7 +76,7 @@ record IsMade (named : State) (ino : ℕ) : Type 0 where
   whole : IsWhole named
   low : 3 ≤ ino
   high : ino < 128 * named.layout.units
-  none : blocks_at named.layout ino ≡ []
+  none : HasNothing named.layout ino
   unused : map.get named.tree.nodes ino ≡ None
 
 module _ (laws : EditLaws) (unused_low : (units : ℕ) (nodes : Nodes) → 3 ≤ lowest_unused units nodes)
@@ -104,14 +102,14 @@ module _ (laws : EditLaws) (unused_low : (units : ℕ) (nodes : Nodes) → 3 ≤
   made : (at : ℕ) (name : FileName) (d : Directory) (named : State) → map.get nodes at ≡ Some (IsDirectory d) → is_legal name ≡ true → map.get d.entries name ≡ None → new_ino < 128 * s.layout.units
       → add_name s at name new_ino ≡ Ok named → IsMade named new_ino
   made at name d named there legal absent low h =
-      let a = adds s named at new_ino name is h in
+      let a = adds s named at new_ino name h in
       let free = unused_free s.layout.units nodes low in
       let apart : new_ino ≢ at = λ e. (let c : None ≡ Some (IsDirectory d) = sym free ∙ ap (map.get nodes) e ∙ there in absurd cc) in
       record {
         whole = added_whole laws s named at new_ino name w legal (absent_there s is at d name there absent) low h;
         low = unused_low s.layout.units nodes;
-        high = subst (λ (u : ℕ). new_ino < 128 * u) (sym (adds_units s named at new_ino name a)) low;
-        none = adds_blocks s named at new_ino name a new_ino apart ∙ no_blocks s is new_ino free;
+        high = subst (λ (u : ℕ). new_ino < 128 * u) (sym a.grows.units) low;
+        none = nothing_same s.layout named.layout new_ino (a.grows.others new_ino apart) (nothing_held s is new_ino free);
         unused = ap (λ (ns : Nodes). map.get ns new_ino) a.nodes ∙ at_other nodes at (with_name a.directory name new_ino) new_ino apart ∙ free;
       }
 
@@ -151,7 +149,7 @@ module _ (laws : EditLaws) (unused_low : (units : ℕ) (nodes : Nodes) → 3 ≤
   rmdir_whole place path =
       bind Keeps (names_of path) (rmdir_along s place) (λ names parts.
       bind Keeps (entry_along nodes no.RootFixed names) (remove_directory s place) (λ e entered.
-      let means = known (Means nodes) (entry_along nodes no.RootFixed names) e (along_means nodes no.RootFixed names) entered in
+      let means = always_ok (Means nodes) (entry_along nodes no.RootFixed names) e (along_means nodes no.RootFixed names) entered in
       bind Keeps (directory_at nodes e.ino) (remove_empty s place e) (λ d found.
       where_true Keeps (map.len d.entries == 0) no.NotEmpty (Ok (fine (drop_node (remove_name s e.at e.name) place e.ino))) (λ empty.
       less_whole s (drop_node (remove_name s e.at e.name) place e.ino) w
@@ -165,13 +163,13 @@ module _ (laws : EditLaws) (unused_low : (units : ℕ) (nodes : Nodes) → 3 ≤
   linked : (at ino : ℕ) (name : FileName) (f : File) (d : Directory) (named : State) → map.get nodes ino ≡ Some (IsFile f) → map.get nodes at ≡ Some (IsDirectory d) → is_legal name ≡ true → map.get d.entries name ≡ None → f.nlink < 32767
       → add_name s at name ino ≡ Ok named → IsWhole (set_node named ino (IsFile (record f { nlink = f.nlink + 1 })))
   linked at ino name f d named file there legal absent few h =
-      let a = adds s named at ino name is h in
+      let a = adds s named at ino name h in
       let has = holds_file s is ino f file in
       let apart : ino ≢ at = λ e. (let c : Some (IsFile f) ≡ Some (IsDirectory d) = sym file ∙ ap (map.get nodes) e ∙ there in absurd cc) in
       let whole = added_whole laws s named at ino name w legal (absent_there s is at d name there absent) has.high h in
       record {
         laid_out = laws.file_set named ino (record f { nlink = f.nlink + 1 }) whole.laid_out (raised f has.plain few) has.not_root has.low
-            (subst (λ (u : ℕ). ino < 128 * u) (sym (adds_units s named at ino name a)) has.high) (adds_blocks s named at ino name a ino apart ∙ has.none);
+            (subst (λ (u : ℕ). ino < 128 * u) (sym a.grows.units) has.high) (nothing_same s.layout named.layout ino (a.grows.others ino apart) has.none);
         names = whole.names;
       }
 
@@ -264,7 +262,7 @@ module _ (laws : EditLaws) (unused_low : (units : ℕ) (nodes : Nodes) → 3 ≤
       bind Keeps (directory_at nodes at) (λ d. node_at nodes e.ino >>= move_node s place (is_below from to) e at end_to.name d) (λ d found.
       bind Keeps (node_at nodes e.ino) (move_node s place (is_below from to) e at end_to.name d) (λ node node_found.
       let m : Move = record { from = e; node = node; to = at; name = end_to.name } in
-      let low = (held s is e.ino node (need_ok (map.get nodes e.ino) no.NoEnt node node_found)).2 in
+      let low = (node_held s is e.ino node (need_ok (map.get nodes e.ino) no.NoEnt node node_found)).2 in
       where_true Keeps _ no.IntoItself (move_into s place m d) (λ allowed.
       onto_whole place m d (directory_there nodes at d found) (end_legal to end_to (names_legal new to parts_to) (need_ok (path_end to) no.RootFixed end_to last_to)) low (map.get d.entries end_to.name) refl)))))))))
 

@@ -1,7 +1,7 @@
 -- What holds of whatever a call does, by its lines.
-use Rattle.std.proofs.Common.{◌≡◌, Bool, true, false, Option, Some, None, Ok, Err, refl, ap, subst}
+use Rattle.std.proofs.Common.{◌≡◌, Bool, true, false, Ok, Err, refl, subst}
 use Rattle.vx_base.specs.declared.refusal.Refusal.{Refusal}
-use Rattle.vx_model.specs.Outcome.{Maybe, unless, ◌>>=◌, need}
+use Rattle.vx_model.specs.Outcome.{Maybe, unless, ◌>>=◌}
 
 abbrev pub Always : {A : Type 0} → (A → Type 0) → Maybe A → Type 0
 Always P (Ok x) = P x
@@ -18,7 +18,3 @@ where_true P false why rest h = tt
 pub always_ok : {A : Type 0} (P : A → Type 0) (m : Maybe A) (x : A) → Always P m → m ≡ Ok x → P x
 always_ok P (Ok y) x h e = let same : y ≡ x = cc in subst P same h
 always_ok P (Err why) x h e = absurd cc
-
-pub need_ok : {A : Type 0} (o : Option A) (why : Refusal) (x : A) → need o why ≡ Ok x → o ≡ Some x
-need_ok None why x h = absurd cc
-need_ok (Some y) why x h = let e : y ≡ x = cc in ap Some e

@@ -1,28 +1,31 @@
 -- The edits that calls are made of keep a state laid out and its names legal and distinct.
-use Rattle.std.proofs.Common.{◌≡◌, ◌≢◌, ℕ, ◌-◌, ◌*◌, ◌<◌, ◌≤◌, Bool, true, false, cond, List, [], ◌∷◌, ◌++◌, map, filter, Option, Some, None, Ok, refl, sym, ap, subst, ◌∙◌, arith, inl, inr, append-nil}
+use Rattle.std.proofs.Common.{◌≡◌, ◌≢◌, ℕ, ◌-◌, ◌*◌, ◌<◌, ◌≤◌, Bool, true, false, cond, List, [], ◌∷◌, ◌++◌, length, map, filter, Option, Some, None, Ok, refl, sym, ap, subst, ◌∙◌, arith, inl, inr, append-nil}
 use Rattle.std.specs.Prelude.{nat_le}
 use Rattle.std.specs.FinMap as map
-use Rattle.std.proofs.lemmas.Bool.{and_parts, cases_eq, eq-eqb, ne_eqb, leb-false}
-use Rattle.std.proofs.lemmas.Grind.{flat_map-append}
-use Rattle.std.proofs.lemmas.List.Elements.{filter-append}
+use Rattle.std.proofs.lemmas.Bool.{and_parts, cases_eq, leb-false}
+use Rattle.std.proofs.lemmas.List.Concat.{flat_map-append}
 use Rattle.vx_base.specs.Paths.{FileName, is_name}
 use Rattle.vx_base.specs.declared.inode.DirEntry.{DirEntry}
 use Rattle.vx_base.specs.declared.refusal.Refusal.TheVariants as no
 use Rattle.vx_sound.specs.Facts.{is_legal, is_name_among, AreNamesRight}
 use Rattle.vx_model.specs.Outcome.{◌>>=◌, need}
-use Rattle.vx_model.specs.Tree.{Nodes, Node, File, Directory, IsFile, IsDirectory}
-use Rattle.vx_model.specs.Layout.{DirectoryBlock, Layout, blocks_at, has_room, with_entry, with_blocks, new_block, filled_or_new, add_entry, other_name, without_name}
+use Rattle.vx_model.specs.Tree.{Node, File, Directory, IsFile, IsDirectory}
+use Rattle.vx_model.specs.Layout.{DirectoryBlock, Layout, blocks_at, with_blocks, with_last, block_of_page, add_entry, freed, other_name, without_name}
 use Rattle.vx_model.specs.State.{State}
-use Rattle.vx_model.specs.Walks.{root, as_directory, directory_at}
-use Rattle.vx_model.specs.Edits.{with_nodes, with_name, add_name, add_name_in, remove_name, remove_name_in, set_node, drop_node}
+use Rattle.vx_model.specs.Walks.{root, as_directory}
+use Rattle.vx_model.specs.Edits.{with_name, add_name, remove_name, remove_name_in, set_node, drop_node}
 use Rattle.vx_model.specs.EditLaws.{EditLaws}
 use Rattle.vx_model.specs.Removing.{unlinked}
 use Rattle.vx_model.specs.Legal.{IfThere}
-use Rattle.vx_model.specs.LaidOut.{AreBlocks, IsPlainFile, IsKept, IsHeld, IsDirectoryNode, IsLaidOut, entries_of}
+use Rattle.vx_model.specs.LaidOut.{HasNothing, IsPlainFile, IsHeld, IsDirectoryNode, IsLaidOut, entries_of}
 use Rattle.vx_model.specs.Reads.{entries_from}
+use Rattle.vx_model.proofs.BlockClaims.{same_owned}
+use Rattle.vx_model.proofs.EntryLists.{entries_without}
+use Rattle.vx_model.proofs.EditKeeps.{IsSameAt, same_at, same_numbers, node_held, nothing_blocks, here, elsewhere, others_same, freed_others, freed_nothing}
+use Rattle.vx_model.proofs.NameEdits.{filled_is, Filled, Grown, entry_added, name_added}
+use Rattle.vx_model.proofs.NameKeeps.{without_numbers}
 use Rattle.vx_wellformed.specs.WellFormed.{HasNames}
-use Rattle.vx_wellformed.proofs.Chains.{Always, bind, where_true, always_ok}
-use Rattle.vx_wellformed.proofs.EntryNames.{push_right, filter_absent, filter_right, taken_absent, absent_none, none_absent}
+use Rattle.vx_wellformed.proofs.EntryNames.{insert_right, filter_absent, filter_right, taken_absent, absent_none, none_absent}
 
 -- what is asked of a state beside its link numbers
 pub record IsWhole (s : State) : Type 0 where
@@ -35,22 +38,16 @@ IsAbsent s at name = is_name_among name (entries_of (blocks_at s.layout at)) ≡
 
 -- ---- what stands at an inode
 
-pub held : (s : State) → IsLaidOut s → (n : ℕ) (node : Node) → map.get s.tree.nodes n ≡ Some node → IsKept (blocks_at s.layout n) node × (2 ≤ n) × (n < 128 * s.layout.units)
-held s is n node there = subst (IsHeld s.layout n) there (is.nodes n)
-
-pub no_blocks : (s : State) → IsLaidOut s → (n : ℕ) → map.get s.tree.nodes n ≡ None → blocks_at s.layout n ≡ []
-no_blocks s is n there = subst (IsHeld s.layout n) there (is.nodes n)
-
 pub record HoldsFile (s : State) (n : ℕ) (f : File) : Type 0 where
   pub plain : IsPlainFile f
-  pub none : blocks_at s.layout n ≡ []
+  pub none : HasNothing s.layout n
   pub low : 2 ≤ n
   pub high : n < 128 * s.layout.units
   pub not_root : n ≢ root
 
 pub holds_file : (s : State) → IsLaidOut s → (n : ℕ) (f : File) → map.get s.tree.nodes n ≡ Some (IsFile f) → HoldsFile s n f
 holds_file s is n f there =
-    let h = held s is n (IsFile f) there in
+    let h = node_held s is n (IsFile f) there in
     record {
       plain = h.0.0;
       none = h.0.1;
@@ -59,20 +56,9 @@ holds_file s is n f there =
       not_root = λ e. subst (λ (o : Option Node). IfThere o IsDirectoryNode) (ap (map.get s.tree.nodes) (sym e) ∙ there) is.has_root;
     }
 
-directory_is : (node : Node) (d : Directory) → as_directory node ≡ Ok d → node ≡ IsDirectory d
-directory_is (IsDirectory x) d h = let e : x ≡ d = cc in ap IsDirectory e
-directory_is (IsFile f) d h = absurd cc
-
-directory_by : (o : Option Node) (d : Directory) → (need o no.NoEnt >>= as_directory) ≡ Ok d → o ≡ Some (IsDirectory d)
-directory_by None d h = absurd cc
-directory_by (Some node) d h = ap Some (directory_is node d h)
-
-pub directory_there : (nodes : Nodes) (n : ℕ) (d : Directory) → directory_at nodes n ≡ Ok d → map.get nodes n ≡ Some (IsDirectory d)
-directory_there nodes n d h = directory_by (map.get nodes n) d h
-
 -- a directory's names are those of its blocks
 pub names_are : (s : State) → IsLaidOut s → (n : ℕ) (d : Directory) → map.get s.tree.nodes n ≡ Some (IsDirectory d) → d.entries ≡ entries_from (entries_of (blocks_at s.layout n))
-names_are s is n d there = (held s is n (IsDirectory d) there).0.1
+names_are s is n d there = (node_held s is n (IsDirectory d) there).0.entries
 
 pub absent_there : (s : State) → IsLaidOut s → (n : ℕ) (d : Directory) (name : FileName) → map.get s.tree.nodes n ≡ Some (IsDirectory d) → map.get d.entries name ≡ None → IsAbsent s n name
 absent_there s is n d name there none =
@@ -82,39 +68,69 @@ none_there : (s : State) → IsLaidOut s → (n : ℕ) (d : Directory) (name : F
 none_there s is n d name there absent =
     ap (λ es. map.get es name) (names_are s is n d there) ∙ absent_none name (entries_of (blocks_at s.layout n)) absent
 
+-- ---- one directory changes
+
+abbrev IsElsewhere : Layout → Layout → ℕ → Type 0
+IsElsewhere l m at = (n : ℕ) → n ≢ at → IsSameAt l m n
+
+-- what holds of it and of the others holds of each
+each_directory : (l m : Layout) (at : ℕ) (P : List DirectoryBlock → Type 0) → IsElsewhere l m at → (n : ℕ) → (n ≡ at → P (blocks_at m at)) → P (blocks_at l n) → P (blocks_at m n)
+each_directory l m at P others n changed kept = elim (cases_eq n at) [
+  | inl e ↦ subst (λ (k : ℕ). P (blocks_at m k)) (sym e) (changed e)
+  | inr ne ↦ subst P (sym (others n ne).blocks) kept
+]
+
+pub nothing_same : (l m : Layout) (n : ℕ) → IsSameAt l m n → HasNothing l n → HasNothing m n
+nothing_same l m n same h = record { none = same_owned l m n (same_at l m n same) ∙ h.none; space = same.space ∙ h.space }
+
+abbrev Right : List DirectoryBlock → Type 0
+Right blocks = AreNamesRight [] (entries_of blocks)
+
+names_with : (l m : Layout) (at : ℕ) → IsElsewhere l m at → HasNames l → Right (blocks_at m at) → HasNames m
+names_with l m at others names right n = each_directory l m at Right others n (λ e. right) (names n)
+
 -- ---- an entry more
 
+-- the entry stands somewhere among those of the directory, and no other has changed
 pub record Grows (l after : Layout) (at : ℕ) (e : DirEntry) : Type 0 where
-  pub blocks : List DirectoryBlock
-  pub layout : after ≡ with_blocks l at blocks
-  pub entries : entries_of blocks ≡ entries_of (blocks_at l at) ++ e ∷ []
+  pub pre : List DirEntry
+  pub post : List DirEntry
+  pub before : entries_of (blocks_at l at) ≡ pre ++ post
+  pub now : entries_of (blocks_at after at) ≡ pre ++ e ∷ post
+  pub others : IsElsewhere l after at
+  pub units : after.units ≡ l.units
 
-one_filled : (d : DirectoryBlock) (e : DirEntry) (filled : List DirectoryBlock) (t : Bool) → cond t (Some (record d { entries = d.entries ++ e ∷ [] } ∷ [])) None ≡ Some filled
-    → entries_of filled ≡ entries_of (d ∷ []) ++ e ∷ []
-one_filled d e filled true h =
-    let same : record d { entries = d.entries ++ e ∷ [] } ∷ [] ≡ filled = cc in
-    ap entries_of (sym same) ∙ append-nil (d.entries ++ e ∷ []) ∙ ap (λ es. es ++ e ∷ []) (sym (append-nil d.entries))
-one_filled d e filled false h = absurd cc
+filled_grows : (l after : Layout) (at : ℕ) (e : DirEntry) → Filled l at e after → Grows l after at e
+filled_grows l after at e f =
+    let in_one = filled_is (blocks_at l at) f.blocks e f.filled in
+    subst (λ (m : Layout). Grows l m at e) (sym f.layout) (record {
+      pre = in_one.pre;
+      post = in_one.post;
+      before = in_one.before;
+      now = ap entries_of (here at f.blocks (l.directories at)) ∙ in_one.after;
+      others = others_same l at f.blocks l.maps (λ n ne. refl);
+      units = refl;
+    })
 
-filled_entries : (l : Layout) (blocks filled : List DirectoryBlock) (e : DirEntry) → AreBlocks l blocks → with_entry blocks e ≡ Some filled → entries_of filled ≡ entries_of blocks ++ e ∷ []
-filled_entries l [] filled e are h = absurd cc
-filled_entries l (d ∷ ds) filled e are h =
-    subst (λ (rest : List DirectoryBlock). with_entry (d ∷ rest) e ≡ Some filled → entries_of filled ≡ entries_of (d ∷ rest) ++ e ∷ []) (sym are.2)
-    (one_filled d e filled (has_room d e)) h
+last_grows : (l after : Layout) (first at : ℕ) (e : DirEntry) → Grown l first at e after → Grows l after at e
+last_grows l after first at e g =
+    let last : DirectoryBlock = record { block = block_of_page g.filling.pages (length (blocks_at l at)); entries = e ∷ [] } in
+    let blocks : List DirectoryBlock = blocks_at l at ++ last ∷ [] in
+    let new : Layout = with_last l at e g.filling in
+    subst (λ (m : Layout). Grows l m at e) (sym g.layout) (record {
+      pre = entries_of (blocks_at l at);
+      post = [];
+      before = sym (append-nil (entries_of (blocks_at l at)));
+      now = ap entries_of (here at blocks (l.directories at)) ∙ flat_map-append (λ (b : DirectoryBlock). b.entries) (blocks_at l at) (last ∷ []);
+      others = others_same l at blocks new.maps (λ n ne. elsewhere n at g.filling.maps (l.maps n) ne);
+      units = refl;
+    })
 
-grown_entries : (blocks : List DirectoryBlock) (block : ℕ) (e : DirEntry) → entries_of (blocks ++ record { block = block; entries = e ∷ [] } ∷ []) ≡ entries_of blocks ++ e ∷ []
-grown_entries blocks block e = flat_map-append (λ (b : DirectoryBlock). b.entries) blocks (record { block = block; entries = e ∷ [] } ∷ [])
-
-grows_by : (l : Layout) (first at : ℕ) (e : DirEntry) (o : Option (List DirectoryBlock)) → AreBlocks l (blocks_at l at) → with_entry (blocks_at l at) e ≡ o
-    → Always (λ after. Grows l after at e) (filled_or_new l first at (blocks_at l at) e o)
-grows_by l first at e (Some filled) are is = record { blocks = filled; layout = refl; entries = filled_entries l (blocks_at l at) filled e are is }
-grows_by l first at e None are is =
-    where_true (λ after. Grows l after at e) _ _ _ (λ within.
-    bind (λ after. Grows l after at e) (need (new_block l first (blocks_at l at)) (no.NoSpace 1 0)) (λ b. Ok (with_blocks l at (blocks_at l at ++ record { block = b; entries = e ∷ [] } ∷ [])))
-    (λ b there. record { blocks = blocks_at l at ++ record { block = b; entries = e ∷ [] } ∷ []; layout = refl; entries = grown_entries (blocks_at l at) b e }))
-
-grows : (l : Layout) (first at : ℕ) (e : DirEntry) → AreBlocks l (blocks_at l at) → Always (λ after. Grows l after at e) (add_entry l first at e)
-grows l first at e are = grows_by l first at e (with_entry (blocks_at l at) e) are refl
+grows : (l after : Layout) (first at : ℕ) (e : DirEntry) → add_entry l first at e ≡ Ok after → Grows l after at e
+grows l after first at e h = elim (entry_added l after first at e h) [
+  | inl f ↦ filled_grows l after at e f
+  | inr g ↦ last_grows l after first at e g
+]
 
 pub record Adds (s new : State) (at ino : ℕ) (name : FileName) : Type 0 where
   pub directory : Directory
@@ -122,34 +138,15 @@ pub record Adds (s new : State) (at ino : ℕ) (name : FileName) : Type 0 where
   pub nodes : new.tree.nodes ≡ map.insert s.tree.nodes at (with_name directory name ino)
   pub grows : Grows s.layout new.layout at (record { ino = ino; name = name })
 
-pub adds : (s new : State) (at ino : ℕ) (name : FileName) → IsLaidOut s → add_name s at name ino ≡ Ok new → Adds s new at ino name
-adds s new at ino name is h =
-    let P : State → Type 0 = λ x. Adds s x at ino name in
-    always_ok P (add_name s at name ino) new
-    (bind P (directory_at s.tree.nodes at) (add_name_in s at name ino) (λ d found.
-    bind P (add_entry s.layout s.tree.tunables.initial_extent_size at (record { ino = ino; name = name })) (λ layout. Ok (record { tree = with_nodes s.tree (map.insert s.tree.nodes at (with_name d name ino)); layout = layout }))
-    (λ layout placed. record {
-      directory = d;
-      there = directory_there s.tree.nodes at d found;
+pub adds : (s new : State) (at ino : ℕ) (name : FileName) → add_name s at name ino ≡ Ok new → Adds s new at ino name
+adds s new at ino name h =
+    let a = name_added s new at ino name h in
+    subst (λ (x : State). Adds s x at ino name) (sym a.state) (record {
+      directory = a.directory;
+      there = a.is_directory;
       nodes = refl;
-      grows = always_ok (λ after. Grows s.layout after at (record { ino = ino; name = name })) _ layout
-          (grows s.layout s.tree.tunables.initial_extent_size at (record { ino = ino; name = name }) (is.blocks at)) placed;
-    }))) h
-
-blocks_here : (l : Layout) (at : ℕ) (blocks : List DirectoryBlock) (n : ℕ) → n ≡ at → blocks_at (with_blocks l at blocks) n ≡ blocks
-blocks_here l at blocks n e = ap (λ t. cond t blocks (l.directories n)) (eq-eqb n at e)
-
-blocks_other : (l : Layout) (at : ℕ) (blocks : List DirectoryBlock) (n : ℕ) → n ≢ at → blocks_at (with_blocks l at blocks) n ≡ blocks_at l n
-blocks_other l at blocks n ne = ap (λ t. cond t blocks (l.directories n)) (ne_eqb n at ne)
-
-abbrev Right : List DirectoryBlock → Type 0
-Right blocks = AreNamesRight [] (entries_of blocks)
-
-names_with : (l : Layout) (at : ℕ) (blocks : List DirectoryBlock) → HasNames l → Right blocks → HasNames (with_blocks l at blocks)
-names_with l at blocks names right n = elim (cases_eq n at) [
-  | inl e ↦ subst Right (sym (blocks_here l at blocks n e)) right
-  | inr ne ↦ subst Right (sym (blocks_other l at blocks n ne)) (names n)
-]
+      grows = grows s.layout a.layout s.tree.tunables.initial_extent_size at (record { ino = ino; name = name }) a.added;
+    })
 
 legal_name : (name : FileName) → is_legal name ≡ true → is_name name ≡ true
 legal_name name h = (and_parts (is_name name) _ h).0
@@ -158,33 +155,27 @@ module _ (laws : EditLaws) where
   -- a name more
   pub added_whole : (s new : State) (at ino : ℕ) (name : FileName) → IsWhole s → is_legal name ≡ true → IsAbsent s at name → ino < 128 * s.layout.units → add_name s at name ino ≡ Ok new → IsWhole new
   added_whole s new at ino name w legal absent low h =
-      let a = adds s new at ino name w.laid_out h in
+      let a = adds s new at ino name h in
       let g = a.grows in
       record {
         laid_out = laws.added s new at ino name a.directory w.laid_out a.there (legal_name name legal) (none_there s w.laid_out at a.directory name a.there absent) low h;
-        names = subst HasNames (sym g.layout) (names_with s.layout at g.blocks w.names
-            (subst (AreNamesRight []) (sym g.entries) (push_right (entries_of (blocks_at s.layout at)) (record { ino = ino; name = name }) (w.names at) legal absent)));
+        names = names_with s.layout new.layout at g.others w.names (subst (AreNamesRight []) (sym g.now)
+            (insert_right g.pre g.post (record { ino = ino; name = name }) (subst (AreNamesRight []) g.before (w.names at)) legal (ap (is_name_among name) (sym g.before) ∙ absent)));
       }
-
-pub adds_units : (s new : State) (at ino : ℕ) (name : FileName) → Adds s new at ino name → new.layout.units ≡ s.layout.units
-adds_units s new at ino name a = ap (λ (l : Layout). l.units) a.grows.layout
-
-pub adds_blocks : (s new : State) (at ino : ℕ) (name : FileName) → Adds s new at ino name → (n : ℕ) → n ≢ at → blocks_at new.layout n ≡ blocks_at s.layout n
-adds_blocks s new at ino name a n ne = ap (λ (l : Layout). blocks_at l n) a.grows.layout ∙ blocks_other s.layout at a.grows.blocks n ne
 
 -- ---- what only goes
 
--- no directory has a new name or block
+-- no directory has a new name, and no inode that has nothing gets anything
 pub record Lessens (s t : State) : Type 0 where
   pub names : HasNames s.layout → HasNames t.layout
   pub absent : (n : ℕ) (name : FileName) → IsAbsent s n name → IsAbsent t n name
-  pub none : (n : ℕ) → blocks_at s.layout n ≡ [] → blocks_at t.layout n ≡ []
+  pub none : (n : ℕ) → HasNothing s.layout n → HasNothing t.layout n
   pub units : t.layout.units ≡ s.layout.units
 
-pub lessens_not : (s : State) → Lessens s s
+lessens_not : (s : State) → Lessens s s
 lessens_not s = record { names = λ h. h; absent = λ n name h. h; none = λ n h. h; units = refl }
 
-pub lessens_then : (a b c : State) → Lessens a b → Lessens b c → Lessens a c
+lessens_then : (a b c : State) → Lessens a b → Lessens b c → Lessens a c
 lessens_then a b c p q = record {
   names = λ h. q.names (p.names h);
   absent = λ n name h. q.absent n name (p.absent n name h);
@@ -192,45 +183,32 @@ lessens_then a b c p q = record {
   units = q.units ∙ p.units;
 }
 
-entries_without : (name : FileName) (ds : List DirectoryBlock) → entries_of (map (without_name name) ds) ≡ filter (other_name name) (entries_of ds)
-entries_without name [] = refl
-entries_without name (d ∷ ds) =
-    ap (λ es. filter (other_name name) d.entries ++ es) (entries_without name ds)
-    ∙ sym (filter-append (other_name name) d.entries (entries_of ds))
-
-absent_with : (l : Layout) (at : ℕ) (blocks : List DirectoryBlock) (n : ℕ) (name : FileName) → (n ≡ at → is_name_among name (entries_of blocks) ≡ false) → is_name_among name (entries_of (blocks_at l n)) ≡ false
-    → is_name_among name (entries_of (blocks_at (with_blocks l at blocks) n)) ≡ false
-absent_with l at blocks n name here there = elim (cases_eq n at) [
-  | inl e ↦ ap (λ bs. is_name_among name (entries_of bs)) (blocks_here l at blocks n e) ∙ here e
-  | inr ne ↦ ap (λ bs. is_name_among name (entries_of bs)) (blocks_other l at blocks n ne) ∙ there
-]
-
-none_with : (l : Layout) (at : ℕ) (blocks : List DirectoryBlock) (n : ℕ) → (n ≡ at → blocks ≡ []) → blocks_at l n ≡ [] → blocks_at (with_blocks l at blocks) n ≡ []
-none_with l at blocks n here there = elim (cases_eq n at) [
-  | inl e ↦ blocks_here l at blocks n e ∙ here e
-  | inr ne ↦ blocks_other l at blocks n ne ∙ there
-]
-
 -- a name goes
 pub record Removes (s t : State) (at : ℕ) (name : FileName) : Type 0 where
   pub lessens : Lessens s t
   pub gone : IsAbsent t at name
 
+no_name : (l : Layout) (n : ℕ) (name : FileName) → HasNothing l n → is_name_among name (entries_of (blocks_at l n)) ≡ false
+no_name l n name h = ap (λ (bs : List DirectoryBlock). is_name_among name (entries_of bs)) (nothing_blocks l n h).0
+
 removed_by : (s : State) (at : ℕ) (name : FileName) (o : Option Node) → IsHeld s.layout at o → Removes s (remove_name_in s at name (need o no.NoEnt >>= as_directory)) at name
-removed_by s at name None h = record { lessens = lessens_not s; gone = ap (λ bs. is_name_among name (entries_of bs)) h }
-removed_by s at name (Some (IsFile f)) h = record { lessens = lessens_not s; gone = ap (λ bs. is_name_among name (entries_of bs)) h.0.1 }
+removed_by s at name None h = record { lessens = lessens_not s; gone = no_name s.layout at name h }
+removed_by s at name (Some (IsFile f)) h = record { lessens = lessens_not s; gone = no_name s.layout at name h.0.1 }
 removed_by s at name (Some (IsDirectory d)) h =
-    let blocks : List DirectoryBlock = map (without_name name) (blocks_at s.layout at) in
-    let entries : entries_of blocks ≡ filter (other_name name) (entries_of (blocks_at s.layout at)) = entries_without name (blocks_at s.layout at) in
+    let l : Layout = s.layout in
+    let blocks : List DirectoryBlock = map (without_name name) (blocks_at l at) in
+    let new : Layout = with_blocks l at blocks in
+    let others : IsElsewhere l new at = others_same l at blocks l.maps (λ n ne. refl) in
+    let entries : entries_of (blocks_at new at) ≡ filter (other_name name) (entries_of (blocks_at l at)) = ap entries_of (here at blocks (l.directories at)) ∙ entries_without name (blocks_at l at) in
     record {
       lessens = record {
-        names = λ names. names_with s.layout at blocks names (subst (AreNamesRight []) (sym entries) (filter_right (other_name name) (entries_of (blocks_at s.layout at)) (names at)));
-        absent = λ n x none. absent_with s.layout at blocks n x
-            (λ e. ap (is_name_among x) entries ∙ filter_absent (other_name name) x (entries_of (blocks_at s.layout at)) (subst (λ (k : ℕ). is_name_among x (entries_of (blocks_at s.layout k)) ≡ false) e none)) none;
-        none = λ n empty. none_with s.layout at blocks n (λ e. ap (map (without_name name)) (ap (blocks_at s.layout) (sym e) ∙ empty)) empty;
+        names = λ names. names_with l new at others names (subst (AreNamesRight []) (sym entries) (filter_right (other_name name) (entries_of (blocks_at l at)) (names at)));
+        absent = λ n x none. each_directory l new at (λ bs. is_name_among x (entries_of bs) ≡ false) others n
+            (λ e. ap (is_name_among x) entries ∙ filter_absent (other_name name) x (entries_of (blocks_at l at)) (subst (λ (k : ℕ). is_name_among x (entries_of (blocks_at l k)) ≡ false) e none)) none;
+        none = λ n none. record { none = same_owned l new n (same_numbers l at blocks (without_numbers name (blocks_at l at)) n) ∙ none.none; space = none.space };
         units = refl;
       };
-      gone = ap (λ bs. is_name_among name (entries_of bs)) (blocks_here s.layout at blocks at refl) ∙ ap (is_name_among name) entries ∙ taken_absent name (entries_of (blocks_at s.layout at));
+      gone = ap (is_name_among name) entries ∙ taken_absent name (entries_of (blocks_at l at));
     }
 
 pub removes : (s : State) (at : ℕ) (name : FileName) → IsLaidOut s → Removes s (remove_name s at name) at name
@@ -240,12 +218,20 @@ set_lessens : (s : State) (n : ℕ) (node : Node) → Lessens s (set_node s n no
 set_lessens s n node = record { names = λ h. h; absent = λ k name h. h; none = λ k h. h; units = refl }
 
 pub drop_lessens : (s : State) (place n : ℕ) → Lessens s (drop_node s place n)
-drop_lessens s place n = record {
-  names = λ names. names_with s.layout n [] names tt;
-  absent = λ k name h. absent_with s.layout n [] k name (λ e. refl) h;
-  none = λ k h. none_with s.layout n [] k (λ e. refl) h;
-  units = refl;
-}
+drop_lessens s place n =
+    let l : Layout = s.layout in
+    let new : Layout = freed l place n in
+    let others : IsElsewhere l new n = freed_others l place n in
+    let empty : blocks_at new n ≡ [] = here n [] (l.directories n) in
+    record {
+      names = λ names. names_with l new n others names (subst Right (sym empty) tt);
+      absent = λ k name h. each_directory l new n (λ bs. is_name_among name (entries_of bs) ≡ false) others k (λ e. no_name new n name (freed_nothing l place n)) h;
+      none = λ k h. elim (cases_eq k n) [
+        | inl e ↦ subst (HasNothing new) (sym e) (freed_nothing l place n)
+        | inr ne ↦ nothing_same l new k (others k ne) h
+      ];
+      units = refl;
+    }
 
 unlinked_absent_by : (t : State) (place n : ℕ) (f : File) (at : ℕ) (name : FileName) (last : Bool) → IsAbsent t at name
     → IsAbsent (cond last (drop_node t place n) (set_node t n (IsFile (record f { nlink = f.nlink - 1 })))) at name

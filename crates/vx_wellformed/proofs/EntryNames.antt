@@ -9,7 +9,6 @@ use Rattle.std.specs.Cmp.Lexicographic.{slice_cmp, nat_list_cmp_total}
 use Rattle.std.specs.FinMap as map
 use Rattle.std.specs.FinMap.Entries.{by_order, find, put}
 use Rattle.std.proofs.lemmas.Bool.{true≢false, false_from_ne_true, not-true, or_parts, or_from, or_left, or_right}
-use Rattle.std.proofs.lemmas.List.{append-nil}
 use Rattle.std.proofs.lemmas.List.Folds.{list_any-append}
 use Rattle.std.proofs.lemmas.List.Sums.{sum_by-cons}
 use Rattle.std.proofs.lemmas.Map.Text.{is_eq-slice_cmp}
@@ -24,14 +23,39 @@ use Rattle.vx_model.specs.Reads.{name_to_inode, entries_from}
 pub among_append : (x : FileName) (xs ys : List DirEntry) → is_name_among x (xs ++ ys) ≡ (is_name_among x xs || is_name_among x ys)
 among_append x xs ys = list_any-append (λ (e : DirEntry). bytes_eq x e.name) xs ys
 
+apart_also : (a b : FileName) → bytes_eq a b ≡ false → bytes_eq b a ≡ false
+apart_also a b h = false_from_ne_true (bytes_eq b a) (λ same. true≢false (sym ((bytes_eq-Decides a b).1 (sym ((bytes_eq-Decides b a).0 same))) ∙ h))
+
+pushed_absent : (before after : List DirEntry) (e : DirEntry) (x : FileName) → (is_name_among x before ≡ false → is_name_among x after ≡ false) → is_name_among x (before ++ e ∷ []) ≡ false → is_name_among x (after ++ e ∷ []) ≡ false
+pushed_absent before after e x kept h =
+    let two = or_parts (is_name_among x before) (is_name_among x (e ∷ [])) (sym (among_append x before (e ∷ [])) ∙ h) in
+    among_append x after (e ∷ []) ∙ or_from (is_name_among x after) (is_name_among x (e ∷ [])) (kept two.0) two.1
+
 -- ---- an entry more
 
-push_by : (before es : List DirEntry) (e : DirEntry) → AreNamesRight before es → is_legal e.name ≡ true → is_name_among e.name (before ++ es) ≡ false → AreNamesRight before (es ++ e ∷ [])
-push_by before [] e h legal new = (legal, ap (is_name_among e.name) (sym (append-nil before)) ∙ new, tt)
-push_by before (x ∷ xs) e h legal new = (h.0, h.1, push_by (before ++ x ∷ []) xs e h.2 legal (ap (is_name_among e.name) (append_assoc before (x ∷ []) xs) ∙ new))
+-- only this name more stands among the second
+abbrev Wider : FileName → List DirEntry → List DirEntry → Type 0
+Wider name before wider = (x : FileName) → bytes_eq x name ≡ false → is_name_among x before ≡ false → is_name_among x wider ≡ false
 
-pub push_right : (es : List DirEntry) (e : DirEntry) → AreNamesRight [] es → is_legal e.name ≡ true → is_name_among e.name es ≡ false → AreNamesRight [] (es ++ e ∷ [])
-push_right es e h legal new = push_by [] es e h legal new
+wider_by : (name : FileName) (before wider es : List DirEntry) → Wider name before wider → is_name_among name es ≡ false → AreNamesRight before es → AreNamesRight wider es
+wider_by name before wider [] more new h = tt
+wider_by name before wider (e ∷ es) more new h =
+    let two = or_parts (bytes_eq name e.name) (is_name_among name es) new in
+    (h.0, more e.name (apart_also name e.name two.0) h.1, wider_by name (before ++ e ∷ []) (wider ++ e ∷ []) es (λ x other. pushed_absent before wider e x (more x other)) two.1 h.2)
+
+wider_push : (before : List DirEntry) (e : DirEntry) → Wider e.name before (before ++ e ∷ [])
+wider_push before e x other none = among_append x before (e ∷ []) ∙ or_from (is_name_among x before) (is_name_among x (e ∷ [])) none (or_from (bytes_eq x e.name) false other refl)
+
+insert_by : (before pre post : List DirEntry) (e : DirEntry) → AreNamesRight before (pre ++ post) → is_legal e.name ≡ true → is_name_among e.name (before ++ (pre ++ post)) ≡ false → AreNamesRight before (pre ++ e ∷ post)
+insert_by before [] post e h legal new =
+    let two = or_parts (is_name_among e.name before) (is_name_among e.name post) (sym (among_append e.name before post) ∙ new) in
+    (legal, two.0, wider_by e.name before (before ++ e ∷ []) post (wider_push before e) two.1 h)
+insert_by before (x ∷ pre) post e h legal new =
+    (h.0, h.1, insert_by (before ++ x ∷ []) pre post e h.2 legal (ap (is_name_among e.name) (append_assoc before (x ∷ []) (pre ++ post)) ∙ new))
+
+-- a new legal name, at any place
+pub insert_right : (pre post : List DirEntry) (e : DirEntry) → AreNamesRight [] (pre ++ post) → is_legal e.name ≡ true → is_name_among e.name (pre ++ post) ≡ false → AreNamesRight [] (pre ++ e ∷ post)
+insert_right pre post e h legal new = insert_by [] pre post e h legal new
 
 -- ---- fewer entries
 
@@ -50,9 +74,7 @@ abbrev Fewer : List DirEntry → List DirEntry → Type 0
 Fewer before fewer = (x : FileName) → is_name_among x before ≡ false → is_name_among x fewer ≡ false
 
 fewer_push : (before fewer : List DirEntry) (e : DirEntry) → Fewer before fewer → Fewer (before ++ e ∷ []) (fewer ++ e ∷ [])
-fewer_push before fewer e less x h =
-    let two = or_parts (is_name_among x before) (is_name_among x (e ∷ [])) (sym (among_append x before (e ∷ [])) ∙ h) in
-    among_append x fewer (e ∷ []) ∙ or_from (is_name_among x fewer) (is_name_among x (e ∷ [])) (less x two.0) two.1
+fewer_push before fewer e less x h = pushed_absent before fewer e x (less x) h
 
 fewer_drop : (before fewer : List DirEntry) (e : DirEntry) → Fewer before fewer → Fewer (before ++ e ∷ []) fewer
 fewer_drop before fewer e less x h = less x (or_parts (is_name_among x before) (is_name_among x (e ∷ [])) (sym (among_append x before (e ∷ [])) ∙ h)).0
@@ -73,9 +95,7 @@ pub filter_right : (p : DirEntry → Bool) (es : List DirEntry) → AreNamesRigh
 filter_right p es h = filter_by p [] [] es (λ x none. none) h
 
 not_same : (name : FileName) (e : DirEntry) → other_name name e ≡ true → bytes_eq name e.name ≡ false
-not_same name e h =
-    false_from_ne_true (bytes_eq name e.name) (λ same.
-    true≢false (sym ((bytes_eq-Decides e.name name).1 (sym ((bytes_eq-Decides name e.name).0 same))) ∙ not-true (bytes_eq e.name name) h))
+not_same name e h = apart_also e.name name (not-true (bytes_eq e.name name) h)
 
 without_by : (name : FileName) (e : DirEntry) (rest : List DirEntry) (t : Bool) → other_name name e ≡ t → is_name_among name rest ≡ false → is_name_among name (cond t (e ∷ rest) rest) ≡ false
 without_by name e rest true h r = or_from (bytes_eq name e.name) (is_name_among name rest) (not_same name e h) r

@@ -8,7 +8,7 @@ use Rattle.vx_base.specs.declared.refusal.Refusal.TheVariants as no
 use Rattle.vx_sound.specs.Facts.{is_legal}
 use Rattle.vx_model.specs.Paths.{PathEnd, path_end, path_end_from}
 use Rattle.vx_model.specs.Walks.{names_of}
-use Rattle.vx_wellformed.proofs.Chains.{need_ok}
+use Rattle.vx_model.proofs.Chains.{need_ok}
 
 abbrev AreApart : (ℕ → Bool) → List (List ℕ) → Type 0
 AreApart p parts = AllByRecursion (λ part. list_any p part ≡ false) parts

@@ -7,6 +7,8 @@ pub mod Legality
 pub mod Calls
 pub mod Histories
 pub mod Forms
+pub mod Stretches
+pub mod Claiming
+pub mod Chaining
 pub mod Saying
 pub mod Sounding
-pub mod Alike

@@ -1,38 +1,41 @@
 -- What an image that holds a state says of blocks and names.
-use Rattle.std.proofs.Common.{◌≡◌, ℕ, zero, suc, ◌+◌, ◌*◌, ◌<◌, ◌≤◌, Bool, true, false, cond, List, [], ◌∷◌, ◌++◌, map, Option, Some, None, Ok, refl, sym, ap, subst, ◌∙◌, arith, append-nil}
+use Rattle.std.proofs.Common.{◌≡◌, ℕ, zero, suc, ◌+◌, ◌*◌, ◌<◌, ◌≤◌, Bool, true, false, cond, List, [], ◌∷◌, ◌++◌, length, map, Option, Some, None, Ok, refl, sym, ap, ap₂, subst, ◌∙◌, arith, lit≤, append-nil}
 use Rattle.std.specs.Prelude.{◌||◌, ◌==◌, is_some, Contains}
 use Rattle.std.specs.List.{flat_map, AllByRecursion}
 use Rattle.std.specs.Option.{option_map}
 use Rattle.std.specs.FinMap as map
 use Rattle.std.proofs.lemmas.Bool.{false_from_ne_true, or_from}
 use Rattle.std.proofs.lemmas.Grind.{flat_map-append}
-use Rattle.std.proofs.lemmas.List.Folds.{list_any-append}
+use Rattle.std.proofs.lemmas.List.{take_all}
 use Rattle.std.proofs.lemmas.List.Sums.{sum_by-append}
 use Rattle.vx_base.specs.Paths.{FileName}
 use Rattle.vx_base.specs.declared.inode.DirEntry.{DirEntry}
 use Rattle.vx_layout.specs.Places.{Volume}
+use Rattle.vx_layout.specs.Dirs.{IsDir}
+use Rattle.vx_space.specs.Space.{Space, no_space, page_blocks, maps_for}
+use Rattle.vx_space.specs.Uses.{uses}
 use Rattle.vx_sound.specs.FirstFault.{numbers}
-use Rattle.vx_sound.specs.Said.{Image, among, inode_count, inode_said, claimed_by, claims_below, entries_said, directory_blocks, names_of}
+use Rattle.vx_sound.specs.Said.{Image, among, inode_said, claimed_by, claims_below, names_of}
 use Rattle.vx_sound.specs.Said as said
-use Rattle.vx_sound.specs.Facts.{IsNamedBy, ReachedIn, IsReached, HasTarget}
-use Rattle.vx_model.specs.Tree.{Node, IsFile, IsDirectory}
-use Rattle.vx_model.specs.Layout.{DirectoryBlock, Layout, Claim, volume, blocks_at, block_numbers, claim_among, or_claim, claim_below}
+use Rattle.vx_sound.specs.Facts.{IsNamedBy, ReachedIn, IsReached, HasTarget, AreClaimable}
+use Rattle.vx_model.specs.Tree.{Node, Directory, IsFile, IsDirectory}
+use Rattle.vx_model.specs.Layout.{DirectoryBlock, Layout, volume, blocks_at, space_at, maps_at, block_numbers, owned, is_owned_below, pages_from, settled_at, settled_maps}
 use Rattle.vx_model.specs.State.{State}
 use Rattle.vx_model.specs.Walks.{root, walk}
-use Rattle.vx_model.specs.Contents.{inode_for, inode_value}
-use Rattle.vx_model.specs.LaidOut.{AreBlocks, IsKept, IsHeld, HasBlock, IsLaidOut, entries_of}
+use Rattle.vx_model.specs.Images.{Stands}
+use Rattle.vx_model.specs.Reads.{entries_from}
+use Rattle.vx_model.specs.Contents.{settled_of, inode_for, parsed_of}
+use Rattle.vx_model.specs.LaidOut.{Owns, HasNothing, IsHeld, IsLaidOut, entries_of}
+use Rattle.vx_model.specs.Saying.{IsImageOf, StateSays}
 use Rattle.vx_model.specs.NameLaws.{meaning_in, lookup, names_in, name_count}
 use Rattle.vx_wellformed.specs.Names as names
 use Rattle.vx_wellformed.specs.WellFormed.{IsWellFormed}
+use Rattle.vx_wellformed.proofs.Claiming.{among_both, uses_append, claimable}
 use Rattle.vx_wellformed.proofs.EntryNames.{meaning, naming, naming_first, counted_alike, meaning_contained}
 use Rattle.vx_wellformed.proofs.Naming.{named_directory, counted_among, linked, one_same}
 use Rattle.vx_wellformed.proofs.Reaching.{walk_first}
-use Rattle.vx_wellformed.proofs.Edits.{names_are}
 
 -- ---- lists
-
-among_both : (xs ys : List ℕ) (b : ℕ) → among (xs ++ ys) b ≡ (among xs b || among ys b)
-among_both xs ys b = list_any-append (λ y. b == y) xs ys
 
 pub numbers_more : (a n : ℕ) → numbers a (suc n) ≡ numbers a n ++ (a + n) ∷ []
 numbers_more a zero = let e : a + 0 ≡ a = omega arith in ap (λ (x : ℕ). x ∷ []) (sym e)
@@ -52,54 +55,85 @@ or_swap true false = refl
 or_swap false true = refl
 or_swap false false = refl
 
--- ---- which inode has a block
-
-claimed_first : (n b : ℕ) (d : DirectoryBlock) (ds : List DirectoryBlock) (t : Bool) → is_some (claim_among n b ds) ≡ among (block_numbers ds) b
-    → is_some (cond t (Some (record { ino = n; entries = d.entries })) (claim_among n b ds)) ≡ (t || among (block_numbers ds) b)
-claimed_first n b d ds true h = refl
-claimed_first n b d ds false h = h
-
-claimed : (n b : ℕ) (ds : List DirectoryBlock) → is_some (claim_among n b ds) ≡ among (block_numbers ds) b
-claimed n b [] = refl
-claimed n b (d ∷ ds) = claimed_first n b d ds (b == d.block) (claimed n b ds)
-
-some_or : (a c : Option Claim) → is_some (or_claim a c) ≡ (is_some a || is_some c)
-some_or None c = refl
-some_or (Some x) c = refl
-
 some_map : {A B : Type 0} (f : A → B) (o : Option A) → is_some (option_map f o) ≡ is_some o
 some_map f None = refl
 some_map f (Some x) = refl
 
-module _ (v : Volume) (image : Image) where
-  -- an inode of a state claims the blocks of its directory
-  claims_by : (l : Layout) (bs : List DirectoryBlock) (node : Node) → AreBlocks l bs → IsKept bs node → claimed_by v image (Some (inode_for bs node)) ≡ block_numbers bs
-  claims_by l bs (IsFile f) are kept = ap block_numbers (sym kept.1)
-  claims_by l [] (IsDirectory d) are kept = refl
-  claims_by l (b ∷ bs) (IsDirectory d) are kept =
-      subst (λ (rest : List DirectoryBlock). claimed_by v image (Some (inode_for (b ∷ rest) (IsDirectory d))) ≡ block_numbers (b ∷ rest)) (sym are.2) refl
+-- ---- the blocks of an inode of a state, whatever it is
 
-  pub node_claims : (l : Layout) (n : ℕ) (o : Option Node) → AreBlocks l (blocks_at l n) → IsHeld l n o → claimed_by v image (option_map (inode_for (blocks_at l n)) o) ≡ block_numbers (blocks_at l n)
-  node_claims l n None are h = ap block_numbers (sym h)
-  node_claims l n (Some node) are h = claims_by l (blocks_at l n) node are h.0
+pub record HasBlocks (l : Layout) (n : ℕ) : Type 0 where
+  pub space : space_at l n ≡ no_space
+  pub maps : length (maps_at l n) ≡ maps_for (pages_from 0 (blocks_at l n))
+  pub few : length (blocks_at l n) ≤ 64
+  pub spelled : AllByRecursion (λ (b : DirectoryBlock). IsDir 1024 b.entries) (blocks_at l n)
 
-  -- and has its blocks
-  directory_by : (l : Layout) (bs : List DirectoryBlock) (node : Node) → AreBlocks l bs → IsKept bs node → directory_blocks v image (Some (inode_for bs node)) ≡ block_numbers bs
-  directory_by l bs (IsFile f) are kept = ap block_numbers (sym kept.1)
-  directory_by l [] (IsDirectory d) are kept = refl
-  directory_by l (b ∷ bs) (IsDirectory d) are kept =
-      subst (λ (rest : List DirectoryBlock). directory_blocks v image (Some (inode_for (b ∷ rest) (IsDirectory d))) ≡ block_numbers (b ∷ rest)) (sym are.2) refl
+no_blocks : (ds : List DirectoryBlock) (ys : List ℕ) → block_numbers ds ++ ys ≡ [] → (ds ≡ []) × (ys ≡ [])
+no_blocks [] ys e = (refl, e)
+no_blocks (d ∷ ds) ys e = absurd cc
 
-  node_directory : (l : Layout) (n : ℕ) (o : Option Node) → AreBlocks l (blocks_at l n) → IsHeld l n o → directory_blocks v image (option_map (inode_for (blocks_at l n)) o) ≡ block_numbers (blocks_at l n)
-  node_directory l n None are h = ap block_numbers (sym h)
-  node_directory l n (Some node) are h = directory_by l (blocks_at l n) node are h.0
+-- where nothing stands
+nothing_at : (l : Layout) (n : ℕ) → HasNothing l n → (blocks_at l n ≡ []) × (maps_at l n ≡ [])
+nothing_at l n h =
+    let parts = no_blocks (blocks_at l n) (page_blocks (space_at l n).present ++ maps_at l n) h.none in
+    (parts.0, ap (λ (x : Space). page_blocks x.present ++ maps_at l n) (sym h.space) ∙ parts.1)
 
--- what an image says where it holds a state
-pub record Says (s : State) (image : Image) : Type 0 where
-  pub inodes : (n : ℕ) → inode_said (volume s.layout) image n ≡ inode_value s n
-  pub entries : (n : ℕ) (d : DirectoryBlock) → blocks_at s.layout n ≡ d ∷ [] → entries_said (volume s.layout) image d.block ≡ d.entries
+no_maps : maps_for (pages_from 0 []) ≡ 0
+no_maps = refl
 
-module _ (s : State) (w : IsWellFormed s) (image : Image) (says : Says s image) where
+nothing_held : (l : Layout) (n : ℕ) → HasNothing l n → HasBlocks l n
+nothing_held l n h =
+    let none = nothing_at l n h in record {
+      space = h.space;
+      maps = ap (λ (ms : List ℕ). length ms) none.1 ∙ sym no_maps ∙ ap (λ (ds : List DirectoryBlock). maps_for (pages_from 0 ds)) (sym none.0);
+      few = subst (λ (ds : List DirectoryBlock). length ds ≤ 64) (sym none.0) (lit≤ tt);
+      spelled = subst (λ (ds : List DirectoryBlock). AllByRecursion (λ (b : DirectoryBlock). IsDir 1024 b.entries) ds) (sym none.0) tt;
+    }
+
+held_by : (l : Layout) (n : ℕ) (o : Option Node) → l.directory_limit ≤ 64 → IsHeld l n o → HasBlocks l n
+held_by l n None limit h = nothing_held l n h
+held_by l n (Some (IsFile f)) limit h = nothing_held l n h.0.1
+held_by l n (Some (IsDirectory d)) limit h = record { space = h.0.space; maps = h.0.maps; few = (let few = h.0.few in omega (arith, few, limit)); spelled = h.0.spelled }
+
+pub page_numbers : (page : ℕ) (ds : List DirectoryBlock) → page_blocks (pages_from page ds) ≡ block_numbers ds
+page_numbers page [] = refl
+page_numbers page (d ∷ ds) = ap (λ (xs : List ℕ). d.block ∷ xs) (page_numbers (page + 1) ds)
+
+module _ (s : State) (is : IsLaidOut s) where
+  pub held : (n : ℕ) → HasBlocks s.layout n
+  held n = held_by s.layout n (map.get s.tree.nodes n) is.limit (is.nodes n)
+
+  pub pages_are : (n : ℕ) → settled_at s.layout n ≡ pages_from 0 (blocks_at s.layout n)
+  pages_are n = ap (λ (x : Space). pages_from 0 (blocks_at s.layout n) ++ x.settled) (held n).space ∙ append-nil (pages_from 0 (blocks_at s.layout n))
+
+  pub maps_are : (n : ℕ) → settled_maps s.layout n ≡ maps_at s.layout n
+  maps_are n =
+      let count = (held n).maps in
+      let all : maps_for (settled_at s.layout n) ≡ maps_for (pages_from 0 (blocks_at s.layout n)) = ap maps_for (pages_are n) in
+      take_all (maps_for (settled_at s.layout n)) (maps_at s.layout n) (omega (arith, count, all))
+
+  -- the blocks that the device says an inode has, its map blocks first
+  abbrev pub taken : ℕ → List ℕ
+  taken n = maps_at s.layout n ++ block_numbers (blocks_at s.layout n)
+
+  owned_are : (n : ℕ) → owned s.layout n ≡ block_numbers (blocks_at s.layout n) ++ maps_at s.layout n
+  owned_are n = ap (λ (x : Space). block_numbers (blocks_at s.layout n) ++ (page_blocks x.present ++ maps_at s.layout n)) (held n).space
+
+  taken_owned : (n b : ℕ) → among (taken n) b ≡ among (owned s.layout n) b
+  taken_owned n b =
+      among_both (maps_at s.layout n) (block_numbers (blocks_at s.layout n)) b
+      ∙ or_swap (among (maps_at s.layout n) b) (among (block_numbers (blocks_at s.layout n)) b)
+      ∙ sym (among_both (block_numbers (blocks_at s.layout n)) (maps_at s.layout n) b)
+      ∙ ap (λ xs. among xs b) (sym (owned_are n))
+
+  taken_once : (n b : ℕ) → uses (taken n) b ≤ 1
+  taken_once n b =
+      let once = is.use_of_blocks.apart n b in
+      let all : uses (owned s.layout n) b ≡ uses (block_numbers (blocks_at s.layout n) ++ maps_at s.layout n) b = ap (λ xs. uses xs b) (owned_are n) in
+      let one = uses_append (block_numbers (blocks_at s.layout n)) (maps_at s.layout n) b in
+      let other = uses_append (maps_at s.layout n) (block_numbers (blocks_at s.layout n)) b in
+      omega (arith, once, all, one, other)
+
+module _ (says : StateSays) (s : State) (w : IsWellFormed s) (image : Image) (stands : Stands (volume s.layout) (parsed_of s) image) where
   abbrev v : Volume
   v = volume s.layout
 
@@ -109,63 +143,66 @@ module _ (s : State) (w : IsWellFormed s) (image : Image) (says : Says s image) 
   abbrev l : Layout
   l = s.layout
 
+  pub there : IsImageOf s image
+  there = record { laid_out = is; stands = stands }
+
   -- ---- claims
 
-  claims_are : (n : ℕ) → claimed_by v image (inode_said v image n) ≡ block_numbers (blocks_at l n)
-  claims_are n = ap (claimed_by v image) (says.inodes n) ∙ node_claims v image l n (map.get s.tree.nodes n) (is.blocks n) (is.nodes n)
+  claims_by : (n : ℕ) (o : Option Node) → map.get s.tree.nodes n ≡ o → IsHeld l n o → claimed_by v image (option_map (inode_for (settled_of l n)) o) ≡ taken s is n
+  claims_by n None e h = let none = nothing_at l n h in ap₂ (λ (ms : List ℕ) (ds : List DirectoryBlock). ms ++ block_numbers ds) (sym none.1) (sym none.0)
+  claims_by n (Some node) e h =
+      let at = ap (option_map (inode_for (settled_of l n))) e in
+      ap₂ (λ (xs ys : List ℕ). xs ++ ys) (says.chain s image there n (inode_for (settled_of l n) node) at ∙ maps_are s is n)
+      (says.blocks s image there n (inode_for (settled_of l n) node) at ∙ ap page_blocks (pages_are s is n) ∙ page_numbers 0 (blocks_at l n))
 
-  claims_more : (n b : ℕ) → among (claims_below v image (suc n)) b ≡ (among (claims_below v image n) b || among (block_numbers (blocks_at l n)) b)
+  claims_are : (n : ℕ) → claimed_by v image (inode_said v image n) ≡ taken s is n
+  claims_are n = ap (claimed_by v image) (says.inodes s image there n) ∙ claims_by n (map.get s.tree.nodes n) refl (is.nodes n)
+
+  claims_more : (n b : ℕ) → among (claims_below v image (suc n)) b ≡ (among (claims_below v image n) b || among (owned l n) b)
   unfolding claims_below
   claims_more n b =
       ap (λ xs. among xs b) (listed_more (λ m. claimed_by v image (inode_said v image m)) n)
       ∙ among_both (claims_below v image n) (claimed_by v image (inode_said v image n)) b
       ∙ ap (λ xs. among (claims_below v image n) b || among xs b) (claims_are n)
+      ∙ ap (λ t. among (claims_below v image n) b || t) (taken_owned s is n b)
 
   claims_none : (b : ℕ) → among (claims_below v image 0) b ≡ false
   unfolding claims_below
   claims_none b = refl
 
-  -- a block is claimed in the image where it is in the state
-  pub below_alike : (b n : ℕ) → among (claims_below v image n) b ≡ is_some (claim_below l b n)
-  unfolding claim_below
+  -- a block is claimed in the image where an inode has it in the state
+  pub below_alike : (b n : ℕ) → among (claims_below v image n) b ≡ is_owned_below l b n
+  unfolding is_owned_below
   below_alike b zero = claims_none b
   below_alike b (suc n) =
-      claims_more n b ∙ or_swap (among (claims_below v image n) b) (among (block_numbers (blocks_at l n)) b)
-      ∙ ap (λ t. among (block_numbers (blocks_at l n)) b || t) (below_alike b n)
-      ∙ ap (λ t. t || is_some (claim_below l b n)) (sym (claimed n b (blocks_at l n)))
-      ∙ sym (some_or (claim_among n b (blocks_at l n)) (claim_below l b n))
+      claims_more n b ∙ or_swap (among (claims_below v image n) b) (among (owned l n) b)
+      ∙ ap (λ t. among (owned l n) b || t) (below_alike b n)
 
-  -- no inode before claims a directory's block
-  pub new_claim : (n b : ℕ) → HasBlock l n b → (k : ℕ) → k ≤ n → among (claims_below v image k) b ≡ false
+  -- no inode before claims an inode's block
+  new_claim : (n b : ℕ) → Owns l n b → (k : ℕ) → k ≤ n → among (claims_below v image k) b ≡ false
   new_claim n b has zero low = claims_none b
   new_claim n b has (suc k) low =
       claims_more k b
-      ∙ or_from (among (claims_below v image k) b) (among (block_numbers (blocks_at l k)) b) (new_claim n b has k (omega arith))
-      (false_from_ne_true (among (block_numbers (blocks_at l k)) b) (λ other. let e : k ≡ n = is.once k n b other has in absurd (omega arith)))
+      ∙ or_from (among (claims_below v image k) b) (among (owned l k) b) (new_claim n b has k (omega (arith, low)))
+      (false_from_ne_true (among (owned l k) b) (λ other. let e : k ≡ n = is.use_of_blocks.once k n b other has in absurd (omega (arith, e, low))))
+
+  pub claims_apart : (n : ℕ) → AreClaimable v (claims_below v image n) (taken s is n)
+  claims_apart n =
+      claimable v (claims_below v image n) (taken s is n) (λ b h. (
+      let owns = sym (taken_owned s is n b) ∙ h in
+      record { is_data = is.use_of_blocks.data_blocks n b owns; new = new_claim n b owns n (omega arith) }))
+      (taken_once s is n)
 
   -- ---- entries
 
-  pub blocks_are : (n : ℕ) → directory_blocks v image (inode_said v image n) ≡ block_numbers (blocks_at l n)
-  blocks_are n = ap (directory_blocks v image) (says.inodes n) ∙ node_directory v image l n (map.get s.tree.nodes n) (is.blocks n) (is.nodes n)
-
-  entries_by : (n : ℕ) (bs : List DirectoryBlock) → blocks_at l n ≡ bs → AreBlocks l bs → flat_map (entries_said v image) (block_numbers bs) ≡ entries_of bs
-  entries_by n [] at are = refl
-  entries_by n (d ∷ ds) at are =
-      let Q : List DirectoryBlock → Type 0 = λ rest. blocks_at l n ≡ d ∷ rest → flat_map (entries_said v image) (block_numbers (d ∷ rest)) ≡ entries_of (d ∷ rest) in
-      subst Q (sym are.2) (λ here. ap (λ es. es ++ []) (says.entries n d here)) at
-
-  pub entries_are : (n : ℕ) → said.entries_of v image n ≡ entries_of (blocks_at l n)
-  unfolding said.entries_of
-  entries_are n = ap (flat_map (entries_said v image)) (blocks_are n) ∙ entries_by n (blocks_at l n) refl (is.blocks n)
-
   -- a directory's names are counted alike
   counted_by : (i n : ℕ) (o : Option Node) → IsHeld l n o → naming i (entries_of (blocks_at l n)) ≡ names_in i o
-  counted_by i n None h = ap (λ bs. naming i (entries_of bs)) h
-  counted_by i n (Some (IsFile f)) h = ap (λ bs. naming i (entries_of bs)) h.0.1
+  counted_by i n None h = ap (λ bs. naming i (entries_of bs)) (nothing_at l n h).0
+  counted_by i n (Some (IsFile f)) h = ap (λ bs. naming i (entries_of bs)) (nothing_at l n h.0.1).0
   counted_by i n (Some (IsDirectory d)) h =
-      sym (ap (λ es. meaning i (map.entries es)) h.0.1 ∙ counted_alike i [] (entries_of (blocks_at l n)) (w.names n))
+      sym (ap (λ es. meaning i (map.entries es)) h.0.entries ∙ counted_alike i [] (entries_of (blocks_at l n)) (w.names n))
 
-  pub counted : (i n : ℕ) → naming i (entries_of (blocks_at l n)) ≡ names_in i (map.get s.tree.nodes n)
+  counted : (i n : ℕ) → naming i (entries_of (blocks_at l n)) ≡ names_in i (map.get s.tree.nodes n)
   counted i n = counted_by i n (map.get s.tree.nodes n) (is.nodes n)
 
   counted_below : (i n : ℕ) → naming i (flat_map (said.entries_of v image) (numbers 0 n)) ≡ name_count s.tree.nodes n i
@@ -176,7 +213,7 @@ module _ (s : State) (w : IsWellFormed s) (image : Image) (says : Says s image) 
       ∙ omega (
         arith,
         sum_by-append (λ (e : DirEntry). cond (e.ino == i) 1 0) (flat_map (said.entries_of v image) (numbers 0 n)) (said.entries_of v image n),
-        ap (naming i) (entries_are n) ∙ counted i n,
+        ap (naming i) (says.all_entries s image there n) ∙ counted i n,
         counted_below i n,
       )
 
@@ -187,26 +224,32 @@ module _ (s : State) (w : IsWellFormed s) (image : Image) (says : Says s image) 
 
   -- ---- what entries name
 
-  pub named_used : (n i : ℕ) → n < 128 * l.units → 1 ≤ naming i (entries_of (blocks_at l n)) → is_some (inode_said v image i) ≡ true
+  named_used : (n i : ℕ) → n < 128 * l.units → 1 ≤ naming i (entries_of (blocks_at l n)) → is_some (inode_said v image i) ≡ true
   named_used n i low some =
       let one_ = counted i n in
       let all = counted_among s.tree.nodes i n (128 * l.units) low in
       let is_ = w.links.links i in
-      let there = linked i (map.get s.tree.nodes i) (omega arith) in
-      ap is_some (says.inodes i) ∙ some_map (inode_for (blocks_at l i)) (map.get s.tree.nodes i) ∙ there
+      let there_ = linked i (map.get s.tree.nodes i) (omega arith) in
+      ap is_some (says.inodes s image there i) ∙ some_map (inode_for (settled_of l i)) (map.get s.tree.nodes i) ∙ there_
 
-  pub targets_by : (es : List DirEntry) → ((i : ℕ) → 1 ≤ naming i es → is_some (inode_said v image i) ≡ true) → AllByRecursion (HasTarget v image) es
+  targets_by : (es : List DirEntry) → ((i : ℕ) → 1 ≤ naming i es → is_some (inode_said v image i) ≡ true) → AllByRecursion (HasTarget v image) es
   targets_by [] each = tt
   targets_by (e ∷ es) each = (each e.ino (omega (arith, naming_first e.ino e es, one_same e.ino e.ino refl)), targets_by es (λ i some. each i (omega (arith, naming_first i e es))))
 
+  pub targets : (n : ℕ) → n < 128 * l.units → AllByRecursion (HasTarget v image) (entries_of (blocks_at l n))
+  targets n low = targets_by (entries_of (blocks_at l n)) (λ i some. named_used n i low some)
+
   -- ---- the way from the root
+
+  names_are : (n : ℕ) (d : Directory) → map.get s.tree.nodes n ≡ Some (IsDirectory d) → d.entries ≡ entries_from (entries_of (blocks_at l n))
+  names_are n d at = (subst (IsHeld l n) at (is.nodes n)).0.entries
 
   named_in : (d : ℕ) (x : FileName) (y : ℕ) → lookup s.tree.nodes d x ≡ Some y → IsNamedBy v image y d
   named_in d x y means =
       let dir = named_directory x y (map.get s.tree.nodes d) means in
       let found : map.get dir.0.entries x ≡ Some y = sym (ap (meaning_in x) dir.1) ∙ means in
-      subst (λ (es : List DirEntry). Contains (map (λ (e : DirEntry). e.ino) es) y) (sym (entries_are d))
-      (meaning_contained x (entries_of (blocks_at l d)) y (ap (λ es. map.get es x) (sym (names_are s is d dir.0 dir.1)) ∙ found))
+      subst (λ (es : List DirEntry). Contains (map (λ (e : DirEntry). e.ino) es) y) (sym (says.all_entries s image there d))
+      (meaning_contained x (entries_of (blocks_at l d)) y (ap (λ es. map.get es x) (sym (names_are d dir.0 dir.1)) ∙ found))
 
   way_on : (k d : ℕ) (path : List FileName) (n : ℕ) → ReachedIn v image k d → walk s.tree.nodes d path ≡ Ok n → IsReached v image n
   way_on k d [] n way walked = let e : d ≡ n = cc in record { names = k; way = subst (ReachedIn v image k) e way }

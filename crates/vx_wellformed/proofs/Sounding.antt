@@ -1,59 +1,118 @@
 -- An image that holds a well-formed state is sound.
-use Rattle.std.proofs.Common.{◌≡◌, ◌≢◌, ℕ, zero, suc, ◌+◌, ◌-◌, ◌*◌, ◌/◌, ◌%◌, ◌<◌, ◌≤◌, true, false, cond, List, [], ◌∷◌, ◌++◌, length, take, drop, get_or, replicate, Option, Some, None, refl, sym, ap, subst, ◌∙◌, arith, lit<, lit≤, append-nil, length-append}
-use Rattle.std.specs.Prelude.{◌||◌, ◌==◌, nat_lt, nat_le, is_some, IsTrue, IfSome}
-use Rattle.std.specs.List.{AllByRecursion}
-use Rattle.std.specs.Option.{option_map}
-use Rattle.std.specs.FinMap as map
-use Rattle.std.proofs.lemmas.Bool.{le-ltb, lt-leb, eq-eqb}
-use Rattle.std.proofs.lemmas.List.{take_at, drop_at, take_all}
+use Rattle.std.proofs.Common.{◌≡◌, ◌≢◌, ℕ, zero, suc, ◌+◌, ◌-◌, ◌*◌, ◌/◌, ◌%◌, ◌<◌, ◌≤◌, true, false, cond, List, [], ◌∷◌, ◌++◌, length, take, drop, get_or, replicate, Option, Some, None, refl, sym, ap, ap₂, subst, ◌∙◌, arith, lit<, append_assoc, append-nil, length-append}
+use Rattle.std.specs.Prelude.{◌||◌, nat_lt, nat_le, is_some, slice_get, IsTrue, IfSome}
+use Rattle.std.specs.List.{flat_map, AllByRecursion}
+use Rattle.std.specs.Option.{option_map, option_and_then}
+use Rattle.std.specs.FinMap as map_of
+use Rattle.std.proofs.lemmas.Bool.{le-ltb, lt-leb}
+use Rattle.std.proofs.lemmas.List.{take_at, drop_at, take_all, get_or-map, length-map}
 use Rattle.std.proofs.lemmas.Nat.{div-add-mod', mod_below}
+use Rattle.std.proofs.lemmas.Option.{slice_get-get_or}
 use Rattle.std.proofs.Math.Path.{fun_ext}
+use Rattle.vx_base.specs.declared.kind.FileKind.{FileKind}
 use Rattle.vx_base.specs.declared.kind.FileKind.TheVariants as kind
+use Rattle.vx_base.specs.declared.inode.Extent.{Extent}
 use Rattle.vx_base.specs.declared.inode.InodeValue.{InodeValue}
 use Rattle.vx_base.specs.declared.inode.DirEntry.{DirEntry}
-use Rattle.vx_layout.specs.Places.{Volume, Place, outside, blank, bits, slots, part, per_block, unit_block, first_data, is_data, place_in_unit, place_of, bitmap_sector, inode_sector, block_sector, sector_part, IsVolume}
+use Rattle.vx_layout.specs.Places.{Volume, Place, outside, blank, per_block, unit_block, first_data, is_data, place_in_unit, place_of, bitmap_sector, inode_sector, block_sector, sector_part, IsVolume}
 use Rattle.vx_layout.specs.Bits.{bits_bytes}
-use Rattle.vx_layout.specs.Inodes.{slot_bytes, half_of}
-use Rattle.vx_layout.specs.Dirs.{IsDir, dir_bytes}
-use Rattle.vx_sound.specs.Said.{Image, among, block_bytes, inode_bytes_at, inode_said, claims_below, entries_said, entries_below, directory_blocks}
-use Rattle.vx_sound.specs.Facts.{IsInodeRight, IsMapInPlace, IsMapRight, IsWholeBlock, IsExtentRight, AreExtentsRight, AreInOrder, FitKind, AreClaimable, AreNamesRight, block_at, AreEntriesRight, HasTarget, AreTargetsRight, FitNames, IsRoot, AreLinksRight, IsBitmapRight}
+use Rattle.vx_layout.specs.Inodes.{layout1, slot_bytes, half_of, IsInode, IsSlot}
+use Rattle.vx_layout.specs.Maps.{MapBlock}
+use Rattle.vx_extents.specs.Extents.{stretches}
+use Rattle.vx_space.specs.Space.{Space, page_blocks}
+use Rattle.vx_sound.specs.Said.{Image, block_bytes, inode_bytes_at, inode_said, chain_said, extents_said, blocks_said, claims_below, entries_said, entries_below, directory_blocks}
+use Rattle.vx_sound.specs.Facts.{IsInodeRight, IsMapInPlace, IsMapRight, IsWholeBlock, IsExtentRight, AreExtentsRight, AreInOrder, AreWithoutHoles, FitKind, AreClaimable, AreNamesRight, block_at, AreEntriesRight, HasTarget, AreTargetsRight, FitNames, IsRoot, AreLinksRight, IsBitmapRight}
 use Rattle.vx_sound.specs.Facts as facts
-use Rattle.vx_sound.specs.Reading.{Form, Entries, form_bytes, content}
-use Rattle.vx_sound.specs.Reading as reading
+use Rattle.vx_sound.specs.Reading.{Form, Entries, Extents, Parsed, Stands, IsForm, DecodingLaws, form_bytes, content, used_in}
 use Rattle.vx_sound.specs.Sound.{IsInodeSound, IsSound}
 use Rattle.vx_model.specs.Legal.{IfThere}
-use Rattle.vx_model.specs.Tree.{Node, IsFile, IsDirectory, File, Directory}
-use Rattle.vx_model.specs.Layout.{DirectoryBlock, Layout, Claim, volume, blocks_at, block_numbers, claim_of}
+use Rattle.vx_model.specs.Tree.{Node, IsFile, IsDirectory}
+use Rattle.vx_model.specs.Layout.{DirectoryBlock, Layout, Claim, Claimed, volume, blocks_at, space_at, maps_at, block_numbers, is_owned, settled_at, settled_maps, pages_from, chain_at, claim_of}
 use Rattle.vx_model.specs.State.{State}
 use Rattle.vx_model.specs.Walks.{root}
-use Rattle.vx_model.specs.Contents.{inode_for, inode_value, parsed_of}
-use Rattle.vx_model.specs.Images.{zero_sector, content_at, Stands, used_in}
-use Rattle.vx_model.specs.Images as images
-use Rattle.vx_model.specs.LaidOut.{AreBlocks, IsHeld, IsDirectoryNode, HasBlock, IsLaidOut, entries_of}
+use Rattle.vx_model.specs.Contents.{Held, settled_of, inode_for, inode_value, parsed_of}
+use Rattle.vx_model.specs.Images.{content_at}
+use Rattle.vx_model.specs.LaidOut.{IsHeld, IsDirectoryNode, IsLaidOut, entries_of}
+use Rattle.vx_model.specs.Saying.{IsImageOf, StateSays}
 use Rattle.vx_wellformed.specs.WellFormed.{IsWellFormed}
-use Rattle.vx_wellformed.proofs.EntryNames.{naming}
 use Rattle.vx_wellformed.proofs.Naming.{file_names, directory_names, root_names}
 use Rattle.vx_wellformed.proofs.Reaching.{reached}
-use Rattle.vx_wellformed.proofs.Forms.{said_of, slot_is, length-slot, length-part}
-use Rattle.vx_wellformed.proofs.Saying.{Says, below_alike, new_claim, blocks_are, names_alike, named_used, targets_by, reached_alike}
+use Rattle.vx_wellformed.proofs.Forms.{whole_blocks, length-slot, length-part}
+use Rattle.vx_wellformed.proofs.Stretches.{IsDataBelow, each_below, in_order, without_holes}
+use Rattle.vx_wellformed.proofs.Claiming.{claimable_first, claimable_rest, claimable_at}
+use Rattle.vx_wellformed.proofs.Chaining.{link, chain_got, share_is, next_is}
+use Rattle.vx_wellformed.proofs.Saying.{held, pages_are, maps_are, page_numbers, below_alike, claims_apart, names_alike, targets, reached_alike}
 
--- ---- the same image, in the words of the check
+-- ---- lists
 
-part_again : (image : Image) (s i : ℕ) (o : Option Claim) → IfSome (option_map (λ es. sector_part i (dir_bytes 1024 es)) (option_map (λ (c : Claim). c.entries) o)) (λ bytes. image s ≡ bytes)
-    → IfSome (option_map (λ (x : Form). sector_part i (form_bytes 1024 x)) (option_map (λ (c : Claim). Entries c.entries) o)) (λ bytes. image s ≡ bytes)
-part_again image s i None h = tt
-part_again image s i (Some c) h = h
+-- what holds of each member of a list
+at_place : {X : Type 0} (P : X → Type 0) (xs : List X) (k : ℕ) (d : X) → AllByRecursion P xs → k < length xs → P (get_or xs k d)
+at_place P [] k d all less = absurd (omega (arith, less))
+at_place P (x ∷ xs) zero d all less = all.0
+at_place P (x ∷ xs) (suc k) d all less = at_place P xs k d all.1 (omega (arith, less))
 
-place_again : (t : State) (image : Image) (s : ℕ) (q : Place) → IfSome (images.content (volume t.layout) (parsed_of t) q) (λ bytes. image s ≡ bytes) → IfSome (content (volume t.layout) (said_of t) q) (λ bytes. image s ≡ bytes)
-unfolding zero_sector
-place_again t image s outside h = tt
-place_again t image s blank h = h
-place_again t image s (bits u) h = h
-place_again t image s (slots k) h = h
-place_again t image s (part b i) h = part_again image s i (claim_of t.layout b) h
+all_got : {X : Type 0} (P : X → Type 0) (xs : List X) → ((k : ℕ) (x : X) → slice_get xs k ≡ Some x → P x) → AllByRecursion P xs
+all_got P [] each = tt
+all_got P (x ∷ xs) each = (each 0 x refl, all_got P xs (λ k y h. each (suc k) y h))
 
-pub stands_again : (t : State) (image : Image) → Stands (volume t.layout) (parsed_of t) image → reading.Stands (volume t.layout) (said_of t) image
-stands_again t image stands s = place_again t image s (place_of (volume t.layout) s) (stands s)
+all_more : {X : Type 0} (P Q : X → Type 0) → ((x : X) → P x → Q x) → (xs : List X) → AllByRecursion P xs → AllByRecursion Q xs
+all_more P Q more [] all = tt
+all_more P Q more (x ∷ xs) all = (more x all.0, all_more P Q more xs all.1)
+
+all_first : {X : Type 0} (P : X → Type 0) (xs ys : List X) → AllByRecursion P (xs ++ ys) → AllByRecursion P xs
+all_first P [] ys all = tt
+all_first P (x ∷ xs) ys all = (all.0, all_first P xs ys all.1)
+
+all_second : {X : Type 0} (P : X → Type 0) (xs ys : List X) → AllByRecursion P (xs ++ ys) → AllByRecursion P ys
+all_second P [] ys all = all
+all_second P (x ∷ xs) ys all = all_second P xs ys all.1
+
+some_by : {X : Type 0} (P : X → Type 0) (o : Option X) → ((x : X) → o ≡ Some x → P x) → IfSome o P
+some_by P None h = tt
+some_by P (Some x) h = h x refl
+
+-- ---- the blocks of a directory, by their places
+
+abbrev no_block : DirectoryBlock
+no_block = record { block = 0; entries = [] }
+
+entries_all : (P : DirEntry → Type 0) (ds : List DirectoryBlock) → AllByRecursion P (entries_of ds) → AllByRecursion (λ (d : DirectoryBlock). AllByRecursion P d.entries) ds
+entries_all P [] all = tt
+entries_all P (d ∷ ds) all = (all_first P d.entries (entries_of ds) all, entries_all P ds (all_second P d.entries (entries_of ds) all))
+
+names_first : (before xs ys : List DirEntry) → AreNamesRight before (xs ++ ys) → AreNamesRight before xs
+names_first before [] ys are = tt
+names_first before (x ∷ xs) ys are = (are.0, are.1, names_first (before ++ x ∷ []) xs ys are.2)
+
+names_rest : (before xs ys : List DirEntry) → AreNamesRight before (xs ++ ys) → AreNamesRight (before ++ xs) ys
+names_rest before [] ys are = subst (λ (zs : List DirEntry). AreNamesRight zs ys) (sym (append-nil before)) are
+names_rest before (x ∷ xs) ys are = subst (λ (zs : List DirEntry). AreNamesRight zs ys) (append_assoc before (x ∷ []) xs) (names_rest (before ++ x ∷ []) xs ys are.2)
+
+names_at : (before : List DirEntry) (ds : List DirectoryBlock) (k : ℕ) → AreNamesRight before (entries_of ds) → k < length ds → AreNamesRight (before ++ entries_of (take k ds)) (get_or ds k no_block).entries
+names_at before [] k are less = absurd (omega (arith, less))
+names_at before (d ∷ ds) zero are less = subst (λ (zs : List DirEntry). AreNamesRight zs d.entries) (sym (append-nil before)) (names_first before d.entries (entries_of ds) are)
+names_at before (d ∷ ds) (suc k) are less =
+    subst (λ (zs : List DirEntry). AreNamesRight zs (get_or ds k no_block).entries) (append_assoc before d.entries (entries_of (take k ds)))
+    (names_at (before ++ d.entries) ds k (names_rest before d.entries (entries_of ds) are) (omega (arith, less)))
+
+-- ---- what an inode of a state says
+
+record IsValueOf (h : Held) (i : InodeValue) : Type 0 where
+  maps : i.maps ≡ length h.maps
+  extents : i.extents ≡ length h.extents
+  size : i.inode.size ≡ h.size
+
+node_value : (h : Held) (node : Node) → IsValueOf h (inode_for h node)
+node_value h (IsFile f) = record { maps = refl; extents = refl; size = refl }
+node_value h (IsDirectory d) = record { maps = refl; extents = refl; size = refl }
+
+value_by : (h : Held) (o : Option Node) (i : InodeValue) → option_map (inode_for h) o ≡ Some i → IsValueOf h i
+value_by h None i e = absurd cc
+value_by h (Some node) i e = let same : inode_for h node ≡ i = cc in subst (IsValueOf h) same (node_value h node)
+
+slot_by : (o : Option InodeValue) (bound n : ℕ) → IfSome o (λ i. IsInode layout1 i × (n < bound)) → IsSlot layout1 o
+slot_by None bound n h = tt
+slot_by (Some i) bound n h = h.0
 
 -- ---- the sector behind a bitmap
 
@@ -83,17 +142,20 @@ blank_place l u low =
 
 -- what the laws of the layers below say of an image
 pub record Laws : Type 0 where
-  pub bitmap : (v : Volume) (p : images.Parsed) (u : ℕ) → IsVolume v → u < v.units → content_at v p (bitmap_sector v u) ≡ Some (bits_bytes (used_in v p u))
-  pub inodes : (v : Volume) (p : images.Parsed) (n : ℕ) → IsVolume v → n < 128 * v.units → content_at v p (inode_sector v n) ≡ Some (slot_bytes (p.inodes (2 * (n / 2))) ++ slot_bytes (p.inodes (2 * (n / 2) + 1)))
-  pub parts : (v : Volume) (p : images.Parsed) (b i : ℕ) → IsVolume v → IsTrue (is_data v b) → i < per_block v
-      → content_at v p (block_sector (per_block v) b + i) ≡ option_map (λ es. sector_part i (dir_bytes v.block es)) (p.blocks b)
-  pub claims : (s : State) (n : ℕ) (d : DirectoryBlock) → IsLaidOut s → blocks_at s.layout n ≡ d ∷ [] → claim_of s.layout d.block ≡ Some (record { ino = n; entries = d.entries })
+  pub bitmap : (v : Volume) (p : Parsed) (u : ℕ) → IsVolume v → u < v.units → content_at v p (bitmap_sector v u) ≡ Some (bits_bytes (used_in v p u))
+  pub inodes : (v : Volume) (p : Parsed) (n : ℕ) → IsVolume v → n < 128 * v.units → content_at v p (inode_sector v n) ≡ Some (slot_bytes (p.inodes (2 * (n / 2))) ++ slot_bytes (p.inodes (2 * (n / 2) + 1)))
+  pub parts : (v : Volume) (p : Parsed) (b i : ℕ) → IsVolume v → IsTrue (is_data v b) → i < per_block v
+      → content_at v p (block_sector (per_block v) b + i) ≡ option_map (λ x. sector_part i (form_bytes v.block x)) (p.forms b)
+  pub block : (s : State) (n i : ℕ) (d : DirectoryBlock) → IsLaidOut s → slice_get (blocks_at s.layout n) i ≡ Some d → claim_of s.layout d.block ≡ Some (record { ino = n; form = Some (Entries d.entries) })
+  pub map_block : (s : State) (n k : ℕ) (c : Claimed) → IsLaidOut s → slice_get (chain_at s.layout n) k ≡ Some c → claim_of s.layout c.block ≡ Some (record { ino = n; form = c.form })
+  pub owned : (s : State) (b : ℕ) → IsLaidOut s → is_some (claim_of s.layout b) ≡ is_owned s.layout b
+  pub decoding : DecodingLaws
+  pub says : StateSays
 
-pub volume_is : (l : Layout) → IsVolume (volume l)
-volume_is l = record { some = lit< tt; even = refl }
+volume_is : (l : Layout) → IsVolume (volume l)
+volume_is l = (whole_blocks l).volume
 
-module _ (laws : Laws) (s : State) (w : IsWellFormed s) (image : Image) (stands : Stands (volume s.layout) (parsed_of s) image) (says : Says s image)
-    (spelled : (b : ℕ) (es : List DirEntry) → (said_of s).forms b ≡ Some (Entries es) → block_bytes (volume s.layout) image b ≡ dir_bytes 1024 es) where
+module _ (laws : Laws) (s : State) (w : IsWellFormed s) (image : Image) (stands : Stands (volume s.layout) (parsed_of s) image) where
   abbrev v : Volume
   v = volume s.layout
 
@@ -103,6 +165,9 @@ module _ (laws : Laws) (s : State) (w : IsWellFormed s) (image : Image) (stands 
   abbrev l : Layout
   l = s.layout
 
+  abbrev here : IsImageOf s image
+  here = record { laid_out = is; stands = stands }
+
   at_sector : (x : ℕ) (bytes : List ℕ) → content_at v (parsed_of s) x ≡ Some bytes → image x ≡ bytes
   at_sector x bytes e = subst (λ (o : Option (List ℕ)). IfSome o (λ b. image x ≡ b)) e (stands x)
 
@@ -111,8 +176,11 @@ module _ (laws : Laws) (s : State) (w : IsWellFormed s) (image : Image) (stands 
   pair_is : (n : ℕ) → n < 128 * l.units → image (inode_sector v n) ≡ slot_bytes (inode_value s (2 * (n / 2))) ++ slot_bytes (inode_value s (2 * (n / 2) + 1))
   pair_is n low = at_sector (inode_sector v n) _ (laws.inodes v (parsed_of s) n (volume_is l) low)
 
+  slot_is : (n : ℕ) → IsSlot layout1 (inode_value s n)
+  slot_is n = slot_by (inode_value s n) (128 * l.units) n ((laws.says.spelled s is).inodes n)
+
   slot_length : (n : ℕ) → length (slot_bytes (inode_value s n)) ≡ 256
-  slot_length n = length-slot (inode_value s n) (slot_is s is n)
+  slot_length n = length-slot (inode_value s n) (slot_is n)
 
   pair_length : (n : ℕ) → n < 128 * l.units → length (image (inode_sector v n)) ≡ 512
   pair_length n low =
@@ -136,155 +204,221 @@ module _ (laws : Laws) (s : State) (w : IsWellFormed s) (image : Image) (stands 
       let whole : 2 * (n / 2) + n % 2 ≡ n = (let e = div-add-mod' n 2 in omega arith) in
       half_is n (n % 2) low few ∙ ap (λ (k : ℕ). slot_bytes (inode_value s k)) whole
 
-  free_by : (n : ℕ) (o : Option Node) → IsHeld l n o → n < 2 → option_map (inode_for (blocks_at l n)) o ≡ None
+  free_by : (n : ℕ) (o : Option Node) → IsHeld l n o → n < 2 → option_map (inode_for (settled_of l n)) o ≡ None
   free_by n None h low = refl
-  free_by n (Some node) h low = absurd (let high = h.1 in omega arith)
+  free_by n (Some node) h low = absurd (let high = h.1 in omega (arith, high, low))
 
   inode_right : (n : ℕ) → n < 128 * l.units → IsInodeRight v image n
   inode_right n low = record {
     slot = inode_value s n;
-    is_slot = slot_is s is n;
+    is_slot = slot_is n;
     spelled = inode_bytes_are n low;
     whole = pair_length n low;
-    first_two = λ small. free_by n (map.get s.tree.nodes n) (is.nodes n) small;
+    first_two = λ small. free_by n (map_of.get s.tree.nodes n) (is.nodes n) small;
   }
 
   -- what holds of the inode that the state has holds of the one that is said
-  said_from : (P : InodeValue → Type 0) (n : ℕ) → IfSome (inode_value s n) P → IfSome (inode_said v image n) P
-  said_from P n h = subst (λ (o : Option InodeValue). IfSome o P) (sym (says.inodes n)) h
+  said_from : (P : InodeValue → Type 0) (n : ℕ) → ((i : InodeValue) → inode_value s n ≡ Some i → P i) → IfSome (inode_said v image n) P
+  said_from P n h = subst (λ (o : Option InodeValue). IfSome o P) (sym (laws.says.inodes s image here n)) (some_by P (inode_value s n) h)
 
-  -- ---- map blocks: there are none
+  value : (n : ℕ) (i : InodeValue) → inode_value s n ≡ Some i → IsValueOf (settled_of l n) i
+  value n i e = value_by (settled_of l n) (map_of.get s.tree.nodes n) i e
 
-  none_by : (P : InodeValue → Type 0) (k : ℕ) (bs : List DirectoryBlock) (node : Node) → k < (inode_for bs node).maps → P (inode_for bs node)
-  none_by P k bs (IsFile f) less = absurd (omega arith)
-  none_by P k bs (IsDirectory d) less = absurd (omega arith)
+  -- ---- blocks with a form
 
-  no_maps : (P : InodeValue → Type 0) (k n : ℕ) (o : Option Node) → IfSome (option_map (inode_for (blocks_at l n)) o) (λ i. k < i.maps → P i)
-  no_maps P k n None = tt
-  no_maps P k n (Some node) = none_by P k (blocks_at l n) node
+  record HasForm (b : ℕ) (x : Form) : Type 0 where
+    is_form : IsForm 1024 x
+    spelled : block_bytes v image b ≡ form_bytes 1024 x
+    whole : IsWholeBlock v image b
+
+  formed : (b : ℕ) (x : Form) → (parsed_of s).forms b ≡ Some x → HasForm b x
+  formed b x at =
+      let fits = subst (λ (o : Option Form). IfSome o (λ y. IsForm 1024 y × IsTrue (is_data v b))) at ((laws.says.spelled s is).forms b) in
+      record {
+        is_form = fits.0;
+        spelled = subst (λ (o : Option Form). IfSome o (λ y. block_bytes v image b ≡ form_bytes 1024 y)) at (laws.decoding.blocks v (parsed_of s) image (whole_blocks l) (laws.says.spelled s is) stands b);
+        whole = λ i low.
+            ap length (at_sector (block_sector 2 b + i) (sector_part i (form_bytes 1024 x))
+            (laws.parts v (parsed_of s) b i (volume_is l) fits.1 low ∙ ap (option_map (λ (y : Form). sector_part i (form_bytes 1024 y))) at))
+            ∙ length-part x i fits.0 low;
+      }
+
+  -- ---- map blocks
+
+  abbrev es_of : ℕ → List Extent
+  es_of n = stretches (settled_at l n)
+
+  link_form : (n k : ℕ) → k < length (settled_maps l n) → (parsed_of s).forms (get_or (settled_maps l n) k 0) ≡ Some (Extents (link n (drop 6 (es_of n)) (settled_maps l n) k))
+  link_form n k less =
+      ap (option_and_then (λ (c : Claim). c.form))
+      (laws.map_block s n k (record { block = get_or (settled_maps l n) k 0; form = Some (Extents (link n (drop 6 (es_of n)) (settled_maps l n) k)) }) is
+      (chain_got n (drop 6 (es_of n)) (settled_maps l n) k less))
+
+  chained : (n : ℕ) (i : InodeValue) → inode_value s n ≡ Some i → chain_said v image i ≡ settled_maps l n
+  chained n i e = laws.says.chain s image here n i e
+
+  claims_parted : (n : ℕ) → AreClaimable v (claims_below v image n) (settled_maps l n ++ page_blocks (settled_at l n))
+  claims_parted n =
+      let maps = maps_are s is n in
+      let pages = ap page_blocks (pages_are s is n) ∙ page_numbers 0 (blocks_at l n) in
+      subst (λ (ms : List ℕ). AreClaimable v (claims_below v image n) (ms ++ page_blocks (settled_at l n))) (sym maps)
+      (subst (λ (bs : List ℕ). AreClaimable v (claims_below v image n) (maps_at l n ++ bs)) (sym pages) (claims_apart laws.says s w image stands n))
+
+  map_in_place : (n k : ℕ) (i : InodeValue) → inode_value s n ≡ Some i → k < i.maps → IsMapInPlace v image n k i
+  map_in_place n k i e less =
+      let count = (value n i e).maps in
+      subst (λ (ms : List ℕ). facts.IsClaimable v (claims_below v image n ++ take k ms) (get_or ms k 0)) (sym (chained n i e))
+      (claimable_at v (claims_below v image n) (settled_maps l n) k (claimable_first v (claims_below v image n) (settled_maps l n) (page_blocks (settled_at l n)) (claims_parted n)) (omega (arith, less, count)))
+
+  map_right : (n k : ℕ) (i : InodeValue) → inode_value s n ≡ Some i → k < i.maps → IsMapRight v image n k i
+  map_right n k i e less =
+      let is_value = value n i e in
+      let count = is_value.maps in
+      let said : get_or (chain_said v image i) k 0 ≡ get_or (settled_maps l n) k 0 = ap (λ (ms : List ℕ). get_or ms k 0) (chained n i e) in
+      let m : MapBlock = link n (drop 6 (es_of n)) (settled_maps l n) k in
+      let has = formed (get_or (settled_maps l n) k 0) (Extents m) (link_form n k (omega (arith, less, count))) in
+      let after : suc k ≡ k + 1 = omega arith in
+      record {
+        map = m;
+        is_map = has.is_form;
+        spelled = ap (block_bytes v image) said ∙ has.spelled;
+        whole = subst (IsWholeBlock v image) (sym said) has.whole;
+        owner = refl;
+        share = share_is n (es_of n) (settled_maps l n) k ∙ ap (λ (x : ℕ). cond (nat_lt (x - 6 - 63 * k) 63) (x - 6 - 63 * k) 63) (sym is_value.extents);
+        next = next_is (suc k) (settled_maps l n) ∙ ap (λ (x : ℕ). nat_lt x (length (settled_maps l n))) after ∙ ap (nat_lt (k + 1)) (sym count);
+      }
 
   -- ---- extents
 
-  -- the claim of a directory's one block
-  one_claim : (n : ℕ) (d : DirectoryBlock) → blocks_at l n ≡ d ∷ [] → HasBlock l n d.block
-  one_claim n d at = ap (λ bs. among (block_numbers bs) d.block) at ∙ ap (λ t. t || false) (same d.block)
-    where
-      same : (b : ℕ) → (b == b) ≡ true
-      same b = eq-eqb b b refl
+  -- a directory's size is that of its blocks, and a file has none
+  size_is : (n : ℕ) (i : InodeValue) → inode_value s n ≡ Some i → i.inode.size ≡ 1024 * length (blocks_at l n)
+  size_is n i e =
+      let size = (value n i e).size in
+      let none : (space_at l n).size ≡ 0 = ap (λ (x : Space). x.size) (held s is n).space in
+      omega (arith, size, none)
 
-  extents_file : (n : ℕ) (bs : List DirectoryBlock) (f : File) → AreExtentsRight v image n (inode_for bs (IsFile f))
-  extents_file n bs f = record { each = tt; order = tt; kind = tt; claims = tt }
+  said_extents : (n : ℕ) (i : InodeValue) → inode_value s n ≡ Some i → extents_said v image i ≡ stretches (pages_from 0 (blocks_at l n))
+  said_extents n i e = laws.says.extents s image here n i e ∙ ap stretches (pages_are s is n)
 
-  extents_none : (n : ℕ) (d : Directory) → AreExtentsRight v image n (inode_for [] (IsDirectory d))
-  extents_none n d = record { each = tt; order = tt; kind = record { whole = tt; size = refl; few = lit≤ tt }; claims = tt }
+  said_blocks : (n : ℕ) (i : InodeValue) → inode_value s n ≡ Some i → blocks_said v image i ≡ block_numbers (blocks_at l n)
+  said_blocks n i e = laws.says.blocks s image here n i e ∙ ap page_blocks (pages_are s is n) ∙ page_numbers 0 (blocks_at l n)
 
-  extents_one : (n : ℕ) (d : Directory) (b : DirectoryBlock) → IsTrue (is_data v b.block) → among (claims_below v image n) b.block ≡ false → AreExtentsRight v image n (inode_for (b ∷ []) (IsDirectory d))
-  extents_one n d b there new = record {
-    each = (record { some = lit≤ tt; pages = lit≤ tt; below_size = λ e. lit< tt; kept = λ e. absurd cc }, tt);
-    order = tt;
-    kind = record { whole = (refl, refl, tt); size = refl; few = lit≤ tt };
-    claims = (record { is_data = there; new = ap (λ xs. among xs b.block) (append-nil (claims_below v image n)) ∙ new }, tt);
-  }
+  extent_right : (n : ℕ) (i : InodeValue) → inode_value s n ≡ Some i → (e : Extent) → IsDataBelow (length (blocks_at l n)) e → IsExtentRight v i e
+  extent_right n i at e h =
+      let few = (held s is n).few in
+      let size = size_is n i at in
+      let below = h.below in record {
+        some = h.some;
+        pages = omega (arith, below, few);
+        below_size = λ kind. omega (arith, below, size);
+        kept = λ kind. absurd (let other = sym h.data_kind ∙ kind in cc);
+      }
 
-  extents_by : (n : ℕ) (bs : List DirectoryBlock) (node : Node) → blocks_at l n ≡ bs → AreBlocks l bs → AreExtentsRight v image n (inode_for bs node)
-  extents_by n bs (IsFile f) at are = extents_file n bs f
-  extents_by n [] (IsDirectory d) at are = extents_none n d
-  extents_by n (b ∷ bs) (IsDirectory d) at are =
-      let Q : List DirectoryBlock → Type 0 = λ rest_. blocks_at l n ≡ b ∷ rest_ → AreExtentsRight v image n (inode_for (b ∷ rest_) (IsDirectory d)) in
-      subst Q (sym are.2) (λ here. extents_one n d b are.0 (new_claim s w image says n b.block (one_claim n b here) n (omega arith))) at
+  kind_by : (k : FileKind) (n : ℕ) (i : InodeValue) → inode_value s n ≡ Some i → FitKind k v i (block_numbers (blocks_at l n)) (stretches (pages_from 0 (blocks_at l n)))
+  kind_by kind.File n i e = tt
+  kind_by kind.Directory n i e =
+      let count = length-map (blocks_at l n) (λ (d : DirectoryBlock). d.block) in
+      let few = (held s is n).few in
+      let size = size_is n i e in record {
+        whole = without_holes (blocks_at l n);
+        size = omega (arith, size, count);
+        few = omega (arith, few, count);
+      }
 
-  extents_at : (n : ℕ) (o : Option Node) → IfSome (option_map (inode_for (blocks_at l n)) o) (AreExtentsRight v image n)
-  extents_at n None = tt
-  extents_at n (Some node) = extents_by n (blocks_at l n) node refl (is.blocks n)
+  extents_right : (n : ℕ) (i : InodeValue) → inode_value s n ≡ Some i → AreExtentsRight v image n i
+  extents_right n i e =
+      let es = said_extents n i e in
+      let bs = laws.says.blocks s image here n i e in record {
+        each = subst (AllByRecursion (IsExtentRight v i)) (sym es) (all_more (IsDataBelow (length (blocks_at l n))) (IsExtentRight v i) (extent_right n i e) (stretches (pages_from 0 (blocks_at l n))) (each_below (blocks_at l n)));
+        order = subst AreInOrder (sym es) (in_order (blocks_at l n));
+        kind = subst (λ (xs : List ℕ). FitKind i.inode.kind v i xs (extents_said v image i)) (sym (said_blocks n i e))
+            (subst (FitKind i.inode.kind v i (block_numbers (blocks_at l n))) (sym es) (kind_by i.inode.kind n i e));
+        claims = subst (λ (ms : List ℕ). AreClaimable v (claims_below v image n ++ ms) (blocks_said v image i)) (sym (chained n i e))
+            (subst (AreClaimable v (claims_below v image n ++ settled_maps l n)) (sym bs)
+            (claimable_rest v (claims_below v image n) (settled_maps l n) (page_blocks (settled_at l n)) (claims_parted n)));
+      }
 
   -- ---- directory blocks
 
-  known_form : (n : ℕ) (d : DirectoryBlock) → blocks_at l n ≡ d ∷ [] → (said_of s).forms d.block ≡ Some (Entries d.entries)
-  known_form n d at = ap (option_map (λ (c : Claim). Entries c.entries)) (laws.claims s n d is at)
+  abbrev block_of : ℕ → ℕ → DirectoryBlock
+  block_of n k = get_or (blocks_at l n) k no_block
 
-  known_entries : (n : ℕ) (d : DirectoryBlock) → blocks_at l n ≡ d ∷ [] → (parsed_of s).blocks d.block ≡ Some d.entries
-  known_entries n d at = ap (option_map (λ (c : Claim). c.entries)) (laws.claims s n d is at)
+  block_got : (n k : ℕ) → k < length (blocks_at l n) → slice_get (blocks_at l n) k ≡ Some (block_of n k)
+  block_got n k less = slice_get-get_or (blocks_at l n) k no_block less
 
-  block_is : (n : ℕ) (d : DirectoryBlock) → blocks_at l n ≡ d ∷ [] → block_at v image n 0 ≡ d.block
-  block_is n d at = ap (λ bs. get_or bs 0 0) (blocks_are s w image says n ∙ ap block_numbers at)
+  block_form : (n k : ℕ) → k < length (blocks_at l n) → (parsed_of s).forms (block_of n k).block ≡ Some (Entries (block_of n k).entries)
+  block_form n k less = ap (option_and_then (λ (c : Claim). c.form)) (laws.block s n k (block_of n k) is (block_got n k less))
 
-  whole_by : (b : ℕ) (es : List DirEntry) → IsTrue (is_data v b) → IsDir 1024 es → (parsed_of s).blocks b ≡ Some es → IsWholeBlock v image b
-  whole_by b es there fits at i low =
-      ap length (at_sector (block_sector 2 b + i) (sector_part i (dir_bytes 1024 es))
-      (laws.parts v (parsed_of s) b i (volume_is l) there low ∙ ap (option_map (λ es. sector_part i (dir_bytes 1024 es))) at))
-      ∙ length-part es i fits low
+  block_is : (n k : ℕ) → k < length (blocks_at l n) → block_at v image n k ≡ (block_of n k).block
+  block_is n k less = ap (λ (bs : List ℕ). get_or bs k 0) (laws.says.directories s image here n) ∙ get_or-map (λ (d : DirectoryBlock). d.block) (blocks_at l n) k no_block 0 less
 
-  none_before : (n : ℕ) → entries_below v image n 0 ≡ []
-  none_before n = refl
+  said_by : (ds : List DirectoryBlock) (k : ℕ) → AllByRecursion (λ (d : DirectoryBlock). entries_said v image d.block ≡ d.entries) ds → flat_map (entries_said v image) (take k (block_numbers ds)) ≡ entries_of (take k ds)
+  said_by ds zero all = refl
+  said_by [] (suc k) all = refl
+  said_by (d ∷ ds) (suc k) all = ap₂ (λ (xs ys : List DirEntry). xs ++ ys) all.0 (said_by ds k all.1)
 
-  entries_right : (n : ℕ) (d : DirectoryBlock) → blocks_at l n ≡ d ∷ [] → IsTrue (is_data v d.block) → IsDir 1024 d.entries → AreEntriesRight v image n 0
-  entries_right n d at there fits = record {
-    entries = d.entries;
-    is_dir = fits;
-    spelled = ap (block_bytes v image) (block_is n d at) ∙ spelled d.block d.entries (known_form n d at);
-    whole = subst (IsWholeBlock v image) (sym (block_is n d at)) (whole_by d.block d.entries there fits (known_entries n d at));
-    names = subst (AreNamesRight []) (append-nil d.entries) (subst (λ (bs : List DirectoryBlock). AreNamesRight [] (entries_of bs)) at (w.names n));
-  }
+  before_is : (n k : ℕ) → entries_below v image n k ≡ entries_of (take k (blocks_at l n))
+  before_is n k =
+      ap (λ (bs : List ℕ). flat_map (entries_said v image) (take k bs)) (laws.says.directories s image here n)
+      ∙ said_by (blocks_at l n) k (all_got (λ (d : DirectoryBlock). entries_said v image d.block ≡ d.entries) (blocks_at l n) (laws.says.entries s image here n))
 
-  entries_by : (n k : ℕ) (bs : List DirectoryBlock) → blocks_at l n ≡ bs → AreBlocks l bs → k < length (block_numbers bs) → AreEntriesRight v image n k
-  entries_by n k [] at are less = absurd (omega arith)
-  entries_by n zero (d ∷ ds) at are less = entries_right n d (at ∙ ap (λ rest_. d ∷ rest_) are.2) are.0 are.1
-  entries_by n (suc k) (d ∷ ds) at are less = absurd (let none = ap (λ rest_. length (block_numbers rest_)) are.2 in omega arith)
+  entries_right : (n k : ℕ) → k < length (blocks_at l n) → AreEntriesRight v image n k
+  entries_right n k less =
+      let has = formed (block_of n k).block (Entries (block_of n k).entries) (block_form n k less) in record {
+        entries = (block_of n k).entries;
+        is_dir = has.is_form;
+        spelled = ap (block_bytes v image) (block_is n k less) ∙ has.spelled;
+        whole = subst (IsWholeBlock v image) (sym (block_is n k less)) has.whole;
+        names = subst (λ (zs : List DirEntry). AreNamesRight zs (block_of n k).entries) (sym (before_is n k)) (names_at [] (blocks_at l n) k (w.names n) less);
+      }
 
-  low_by : (n : ℕ) (d : DirectoryBlock) (o : Option Node) → blocks_at l n ≡ d ∷ [] → IsHeld l n o → n < 128 * l.units
-  low_by n d None at h = absurd (let c : d ∷ [] ≡ [] = sym at ∙ h in cc)
-  low_by n d (Some node) at h = h.2
+  targets_right : (n k : ℕ) → n < 128 * l.units → k < length (blocks_at l n) → AreTargetsRight v image n k
+  targets_right n k low less =
+      let said = ap (entries_said v image) (block_is n k less) ∙ laws.says.entries s image here n k (block_of n k) (block_got n k less) in
+      subst (AllByRecursion (HasTarget v image)) (sym said)
+      (at_place (λ (d : DirectoryBlock). AllByRecursion (HasTarget v image) d.entries) (blocks_at l n) k no_block (entries_all (HasTarget v image) (blocks_at l n) (targets laws.says s w image stands n low)) less)
 
-  targets_right : (n : ℕ) (d : DirectoryBlock) → blocks_at l n ≡ d ∷ [] → AreTargetsRight v image n 0
-  targets_right n d at =
-      let low = low_by n d (map.get s.tree.nodes n) at (is.nodes n) in
-      let all : entries_of (blocks_at l n) ≡ d.entries = ap entries_of at ∙ append-nil d.entries in
-      subst (AllByRecursion (HasTarget v image)) (sym (ap (entries_said v image) (block_is n d at) ∙ says.entries n d at))
-      (targets_by s w image says d.entries (λ i some. named_used s w image says n i low (subst (λ (es : List DirEntry). 1 ≤ naming i es) (sym all) some)))
-
-  targets_at : (n k : ℕ) (bs : List DirectoryBlock) → blocks_at l n ≡ bs → AreBlocks l bs → k < length (block_numbers bs) → AreTargetsRight v image n k
-  targets_at n k [] at are less = absurd (omega arith)
-  targets_at n zero (d ∷ ds) at are less = targets_right n d (at ∙ ap (λ rest_. d ∷ rest_) are.2)
-  targets_at n (suc k) (d ∷ ds) at are less = absurd (let none = ap (λ rest_. length (block_numbers rest_)) are.2 in omega arith)
-
-  fewer : (n k : ℕ) → k < length (directory_blocks v image (inode_said v image n)) → k < length (block_numbers (blocks_at l n))
-  fewer n k less = subst (λ (bs : List ℕ). k < length bs) (blocks_are s w image says n) less
+  fewer : (n k : ℕ) → k < length (directory_blocks v image (inode_said v image n)) → k < length (blocks_at l n)
+  fewer n k less =
+      let count : length (directory_blocks v image (inode_said v image n)) ≡ length (blocks_at l n) =
+      ap (λ (bs : List ℕ). length bs) (laws.says.directories s image here n) ∙ length-map (blocks_at l n) (λ (d : DirectoryBlock). d.block) in
+      omega (arith, less, count)
 
   inode_sound : (n : ℕ) → n < 128 * l.units → IsInodeSound v image n
   inode_sound n low = record {
     slot = inode_right n low;
-    map_places = λ k. said_from (λ i. k < i.maps → IsMapInPlace v image n k i) n (no_maps (IsMapInPlace v image n k) k n (map.get s.tree.nodes n));
-    maps = λ k. said_from (λ i. k < i.maps → IsMapRight v image n k i) n (no_maps (IsMapRight v image n k) k n (map.get s.tree.nodes n));
-    extents = said_from (AreExtentsRight v image n) n (extents_at n (map.get s.tree.nodes n));
-    entries = λ k less. entries_by n k (blocks_at l n) refl (is.blocks n) (fewer n k less);
-    targets = λ k less. targets_at n k (blocks_at l n) refl (is.blocks n) (fewer n k less);
+    map_places = λ k. said_from (λ i. k < i.maps → IsMapInPlace v image n k i) n (λ i e less. map_in_place n k i e less);
+    maps = λ k. said_from (λ i. k < i.maps → IsMapRight v image n k i) n (λ i e less. map_right n k i e less);
+    extents = said_from (AreExtentsRight v image n) n (λ i e. extents_right n i e);
+    entries = λ k less. entries_right n k (fewer n k less);
+    targets = λ k less. targets_right n k low (fewer n k less);
   }
 
   -- ---- links
 
-  links_by : (n : ℕ) (o : Option Node) → map.get s.tree.nodes n ≡ o → IsHeld l n o → n ≢ root → IfSome (option_map (inode_for (blocks_at l n)) o) (λ i. FitNames true v image n i i.inode.kind)
-  links_by n None there h ne = tt
-  links_by n (Some (IsFile f)) there h ne = record { links = names_alike s w image says n ∙ file_names s w.links n f there; some = λ e. h.0.0.some_links }
-  links_by n (Some (IsDirectory d)) there h ne = record {
-    one = names_alike s w image says n ∙ directory_names s w.links n d there ne;
-    reached = reached_alike s w image says n (reached s w.links w.no_loops n d there);
+  links_by : (n : ℕ) (o : Option Node) → map_of.get s.tree.nodes n ≡ o → IsHeld l n o → n ≢ root → IfSome (option_map (inode_for (settled_of l n)) o) (λ i. FitNames true v image n i i.inode.kind)
+  links_by n None at h ne = tt
+  links_by n (Some (IsFile f)) at h ne = record { links = names_alike laws.says s w image stands n ∙ file_names s w.links n f at; some = λ e. h.0.0.some_links }
+  links_by n (Some (IsDirectory d)) at h ne = record {
+    one = names_alike laws.says s w image stands n ∙ directory_names s w.links n d at ne;
+    reached = reached_alike laws.says s w image stands n (reached s w.links w.no_loops n d at);
   }
 
-  root_kind : (bs : List DirectoryBlock) (o : Option Node) → IfThere o IsDirectoryNode → option_map (λ (i : InodeValue). i.inode.kind) (option_map (inode_for bs) o) ≡ Some kind.Directory
-  root_kind bs None h = absurd h
-  root_kind bs (Some (IsFile f)) h = absurd h
-  root_kind bs (Some (IsDirectory d)) h = refl
+  root_kind : (h : Held) (o : Option Node) → IfThere o IsDirectoryNode → option_map (λ (i : InodeValue). i.inode.kind) (option_map (inode_for h) o) ≡ Some kind.Directory
+  root_kind h None is_there = absurd is_there
+  root_kind h (Some (IsFile f)) is_there = absurd is_there
+  root_kind h (Some (IsDirectory d)) is_there = refl
 
   root_right : IsRoot v image (inode_said v image root)
   root_right = record {
-    directory = ap (option_map (λ (i : InodeValue). i.inode.kind)) (says.inodes root) ∙ root_kind (blocks_at l root) (map.get s.tree.nodes root) is.has_root;
-    no_name = names_alike s w image says root ∙ root_names s w.links is.has_root;
+    directory = ap (option_map (λ (i : InodeValue). i.inode.kind)) (laws.says.inodes s image here root) ∙ root_kind (settled_of l root) (map_of.get s.tree.nodes root) is.has_root;
+    no_name = names_alike laws.says s w image stands root ∙ root_names s w.links is.has_root;
   }
 
   links_right : (n : ℕ) → AreLinksRight true v image n
   links_right n = record {
     root_is = λ e. subst (λ (k : ℕ). IsRoot v image (inode_said v image k)) (sym e) root_right;
-    other = λ ne. said_from (λ i. FitNames true v image n i i.inode.kind) n (links_by n (map.get s.tree.nodes n) refl (is.nodes n) ne);
+    other = λ ne. subst (λ (o : Option InodeValue). IfSome o (λ i. FitNames true v image n i i.inode.kind)) (sym (laws.says.inodes s image here n)) (links_by n (map_of.get s.tree.nodes n) refl (is.nodes n) ne);
   }
 
   -- ---- bitmaps
@@ -295,11 +429,11 @@ module _ (laws : Laws) (s : State) (w : IsWellFormed s) (image : Image) (stands 
 
   used_alike : (u j : ℕ) → used_in v (parsed_of s) u j ≡ facts.used_in v image u j
   used_alike u j =
-      ap (λ t. nat_lt j (first_data (per_block v)) || t) (some_ino (claim_of l (unit_block v u + j)) ∙ sym (below_alike s w image says (unit_block v u + j) (128 * l.units)))
+      ap (λ t. nat_lt j (first_data (per_block v)) || t)
+      (some_ino (claim_of l (unit_block v u + j)) ∙ laws.owned s (unit_block v u + j) is ∙ sym (below_alike laws.says s w image stands (unit_block v u + j) (128 * l.units)))
 
   blank_is : (u : ℕ) → u < l.units → image (bitmap_sector v u + 1) ≡ replicate 512 0
-  unfolding zero_sector
-  blank_is u low = subst (λ (q : Place). IfSome (images.content v (parsed_of s) q) (λ bytes. image (bitmap_sector v u + 1) ≡ bytes)) (blank_place l u low) (stands (bitmap_sector v u + 1))
+  blank_is u low = subst (λ (q : Place). IfSome (content v (parsed_of s) q) (λ bytes. image (bitmap_sector v u + 1) ≡ bytes)) (blank_place l u low) (stands (bitmap_sector v u + 1))
 
   bitmap_right : (u : ℕ) → u < l.units → IsBitmapRight v image u
   bitmap_right u low = record {

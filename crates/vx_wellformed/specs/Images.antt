@@ -25,7 +25,7 @@ pub record HistorySound : Type 0 where
   -- a new image is sound
   pub formatted : (v : Super) (image : ℕ → List ℕ) → IsSuper v → IsFormatted (volume_of v) image → IsSound true (volume_of v) image
   -- whatever came in a new file system, an image that holds what it left is sound
-  pub fresh : (v : Super) (limit device_sectors at : ℕ) (events : List Event) (image : ℕ → List ℕ) → IsSuper v → limit ≤ 1 → sectors_of (volume_of v) ≤ device_sectors → AllByRecursion HasModes events
+  pub fresh : (v : Super) (limit device_sectors at : ℕ) (events : List Event) (image : ℕ → List ℕ) → IsSuper v → limit ≤ 64 → sectors_of (volume_of v) ≤ device_sectors → AllByRecursion HasModes events
       → Stands (volume_of v) (parsed_of (after_all (opening at (fresh_of v limit device_sectors)) events).state) image → IsSound true (volume_of v) image
   -- and so it is after each first part of what came in any well-formed state, as a crash may leave it
   pub part : (w : World) (events : List Event) (k : ℕ) (image : ℕ → List ℕ) → IsWellFormed w.state → AllByRecursion HasModes events

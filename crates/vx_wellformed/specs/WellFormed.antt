@@ -42,7 +42,7 @@ HasModes _ = Unit {0}
 
 pub record WellFormedLaws : Type 0 where
   -- a new file system is well-formed
-  pub fresh : (v : Super) (limit device_sectors : ℕ) → IsSuper v → limit ≤ 1 → sectors_of (volume_of v) ≤ device_sectors → IsWellFormed (fresh_of v limit device_sectors)
+  pub fresh : (v : Super) (limit device_sectors : ℕ) → IsSuper v → limit ≤ 64 → sectors_of (volume_of v) ≤ device_sectors → IsWellFormed (fresh_of v limit device_sectors)
   -- each call keeps it so, whatever it answers
   pub step : (s : State) (place session : ℕ) (c : Call) (done : Done) → IsWellFormed s → HasMode c → step s place session c ≡ Some done → IsWellFormed done.state
   pub released : (s : State) (upto : ℕ) → IsWellFormed s → IsWellFormed (with_released s upto)

@@ -12,13 +12,12 @@ ghost use Rattle.vx_wellformed.specs.Names.{NamesFit};
 ghost use Rattle.vx_wellformed.specs.WellFormed.{WellFormedLaws};
 ghost use Rattle.vx_wellformed.specs.Images.{HistorySound, StateSound};
 
-use vx_layout::places;
 use vx_model::edits::edit_laws;
 use vx_model::images::{log_says, sector_contents};
 use vx_model::laws::{link_numbers, loops};
-use vx_model::states::{claims, fresh_reads, unused_inodes};
+use vx_model::states::{claims, fresh_reads, state_says, unused_inodes};
 use vx_model::waiting::waiting_laws;
-use vx_sound::decoding_laws;
+use vx_sound::{alike_laws, decoding_laws};
 
 /// Where link numbers are the numbers of names and no inode is below itself, each directory is reached from the root.
 pub fn names_fit()
@@ -44,6 +43,7 @@ pub fn state_sound()
     sector_contents();
     log_says();
     claims();
+    state_says();
 }
 
 /// So does each image that holds what a history of a new file system leaves, or a first part of it.
@@ -60,5 +60,5 @@ pub fn history_sound()
 pub fn sound_alike()
     ensures { (strict : Bool) (v : Volume) (a b : ℕ → List ℕ) → IsVolume v → ((s : ℕ) → place_of v s ≢ outside → a s ≡ b s) → IsSound strict v a → IsSound strict v b }
 {
-    places();
+    alike_laws();
 }
