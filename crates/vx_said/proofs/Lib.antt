@@ -1,0 +1,11 @@
+pub mod Stretches
+pub mod Places
+pub mod Chains
+pub mod Inodes
+pub mod Collecting
+pub mod States
+pub mod Claiming
+pub mod LayingOut
+pub mod Names
+pub mod Reaching
+pub mod Plainness

@@ -1,0 +1,23 @@
+-- What state an image says.
+use Rattle.std.specs.Prelude.{◌≡◌, ℕ, List, None}
+use Rattle.vx_layout.specs.Supers.{volume_of}
+use Rattle.vx_layout.specs.declared.superblock.Super.{Super}
+use Rattle.vx_model.specs.State.{State, directory_blocks}
+use Rattle.vx_model.specs.Layout.{volume}
+use Rattle.vx_model.specs.Images.{Stands}
+use Rattle.vx_model.specs.Reads.{ImageReadsAs}
+use Rattle.vx_model.specs.Contents.{parsed_of}
+use Rattle.vx_wellformed.specs.WellFormed.{IsWellFormed}
+
+-- A well-formed state of these sizes, on a device of so many sectors, that the image says and of which no block waits.
+pub record SaidState (v : Super) (device_sectors : ℕ) (image : ℕ → List ℕ) : Type 0 where
+  pub state : State
+  pub well_formed : IsWellFormed state
+  pub log_blocks : state.layout.log_blocks ≡ v.log_blocks
+  pub units : state.layout.units ≡ v.units
+  pub volume_is : volume state.layout ≡ volume_of v
+  pub device : state.layout.device_sectors ≡ device_sectors
+  pub limit : state.layout.directory_limit ≡ directory_blocks
+  pub stands : Stands (volume state.layout) (parsed_of state) image
+  pub reads : ImageReadsAs (volume_of v) image state.tree
+  pub nothing_waits : (b : ℕ) → state.layout.pending b ≡ None

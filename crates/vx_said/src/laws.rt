@@ -1,0 +1,32 @@
+//! Laws of such states.
+ghost use Rattle.std.specs.Prelude.{◌≤◌, ℕ, List, true};
+ghost use Rattle.vx_layout.specs.Places.{sectors_of};
+ghost use Rattle.vx_layout.specs.Supers.{IsSuper, volume_of};
+ghost use Rattle.vx_layout.specs.declared.superblock.Super.{Super};
+ghost use Rattle.vx_sound.specs.Sound.{IsSound};
+ghost use Rattle.vx_model.specs.Layout.{volume};
+ghost use Rattle.vx_model.specs.State.{State};
+ghost use Rattle.vx_model.specs.Saying.{IsImageOf};
+ghost use Rattle.vx_said.specs.Plain.{HasPlainFiles};
+ghost use Rattle.vx_said.specs.SaidState.{SaidState};
+
+use vx_model::states::state_says;
+use vx_sound::{claim_laws, reading_laws, sound_laws};
+
+/// An image that passes the check says a well-formed state, where its files have no bytes, extents and attributes: the states of
+/// the model have no page of a file before files are read and written.
+pub fn said_state()
+    ensures { (v : Super) (device_sectors : ℕ) (image : ℕ → List ℕ) → IsSuper v → sectors_of (volume_of v) ≤ device_sectors → IsSound true (volume_of v) image → HasPlainFiles (volume_of v) image
+        → SaidState v device_sectors image }
+{
+    sound_laws();
+    claim_laws();
+    reading_laws();
+}
+
+/// The files of each image that says a laid-out state have none.
+pub fn plain_files()
+    ensures { (s : State) (image : ℕ → List ℕ) → IsImageOf s image → HasPlainFiles (volume s.layout) image }
+{
+    state_says();
+}

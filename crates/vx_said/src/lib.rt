@@ -1,0 +1,4 @@
+//! The states that sound images say (docs/CHECK.md).
+#![tactic(auto)]
+
+pub mod laws;
