@@ -10,7 +10,7 @@ use Rattle.vx_base.specs.declared.inode.DirEntry.{DirEntry}
 use Rattle.vx_dev.specs.declared.device.Operation.{Operation}
 use Rattle.vx_dev.specs.declared.device.Operation.TheVariants.{Put, Barrier}
 use Rattle.vx_dev.specs.Tape.{Tape, State as Device, Did, DidNothing, Failed, did, tried, MayHold, Settles, IsImage, IsInStep}
-use Rattle.vx_layout.specs.Dirs.{dir_bytes}
+use Rattle.vx_sound.specs.Reading.{Form, form_bytes}
 use Rattle.vx_layout.specs.LogForms.{AfterImage, IsHomeSector, LogState}
 use Rattle.vx_layout.specs.Places.{Volume, is_data, block_sector, sector_part}
 use Rattle.vx_layout.specs.Supers.{IsSuper, super_bytes, volume_of}
@@ -22,11 +22,11 @@ use Rattle.vx_dev.proofs.Claims.{passed_did, passed_still, passed_join, told_wea
 use Rattle.vx_model.specs.AllowedLaws.{IsPlaced}
 use Rattle.vx_model.specs.Contents.{parsed_of}
 use Rattle.vx_model.specs.Images.{is_metadata, contents, content_at}
-use Rattle.vx_model.specs.Layout.{Claim, claim_of, is_free}
 use Rattle.vx_model.specs.Legal.{World, Waiting, Legal, opening, at_of, after_all}
 use Rattle.vx_model.specs.Replays.{ReplaysAs}
 use Rattle.vx_model.specs.State.{State}
-use Rattle.vx_model.specs.Waiting.{is_claimed}
+use Rattle.vx_model.specs.LaidOut.{HoldsData}
+use Rattle.vx_model.specs.Waiting.{IsNamed}
 use Rattle.vx_log.specs.Batches.{noted_at}
 use Rattle.vx_model.specs.Allowed.{HoldsFront}
 use Rattle.vx_stage.specs.Leads.{state_at}
@@ -38,10 +38,10 @@ use Rattle.vx_stage.specs.declared.kernel.Job.TheVariants.{Idle}
 use Rattle.vx_stage.specs.declared.kernel.Kernel.{Kernel}
 use Rattle.vx_stage.specs.declared.begin.Room.{Room}
 use Rattle.vx_base.specs.declared.mode.Logging.{Logging}
-use Rattle.vx_stage.proofs.Gates.{or_right, or_false, free_parts, claim_none, none_some}
+use Rattle.vx_stage.proofs.Gates.{or_right, or_false, claim_none}
 use Rattle.vx_stage.proofs.Levels.{level_write, level_barrier, level_replays, begun_at}
 use Rattle.vx_stage.proofs.Merging.{nothing}
-use Rattle.vx_stage.proofs.Releasing.{high, mapped_some}
+use Rattle.vx_stage.proofs.Releasing.{high}
 use Rattle.vx_stage.proofs.Showing.{same_volume}
 
 -- the kernel of a mount that begins with this room
@@ -83,7 +83,7 @@ module _ (k : Kernel) (s : State) (empty : k.history.items ≡ []) (committed : 
     });
     mounted = λ i le. subst (IsMounted k.sizes) (sym (state_is i)) m;
     mounted_now = subst (IsMounted k.sizes) (sym present_is) m;
-    claimed = λ i b low le there. inl (subst (λ (x : State). is_claimed x b ≡ true) (state_is i ∙ sym present_is) there);
+    named = λ i b low le there. inl (subst (λ (x : State). IsNamed x b) (state_is i ∙ sym present_is) there);
     waits = λ i b p le pends lt. absurd (omega (arith, le, lt, ap (λ (es : List Event). length es) empty));
     pending = λ b p pends. absurd (let wrong : ◌≡◌ {A = Option ℕ} None (Some p) = sym (free b) ∙ ap (λ (x : State). x.layout.pending b) (sym present_is) ∙ pends in cc);
   }
@@ -147,16 +147,15 @@ module _ (k : Kernel) (s : State) (empty : k.history.items ≡ []) (committed : 
       head_is = begun.level.head;
     }
 
-    free_apart : (b j : ℕ) → is_free s.layout b ≡ true → j < 2 → (block_sector 2 b + j == 0 || is_metadata vol (parsed_of s) (block_sector 2 b + j)) ≡ false
-    free_apart b j free lt =
+    data_apart : (b j : ℕ) → HoldsData s.layout b → j < 2 → (block_sector 2 b + j == 0 || is_metadata vol (parsed_of s) (block_sector 2 b + j)) ≡ false
+    data_apart b j holds lt =
         let q : ℕ = block_sector 2 b + j in
-        let parts = free_parts s.layout b free in
-        let here : IsTrue (is_data vol b) = subst (λ (w : Volume). is_data w b ≡ true) (same_volume k.sizes s m) parts.0 in
-        let content : content_at vol (parsed_of s) q ≡ option_map (λ es. sector_part j (dir_bytes 1024 es)) ((parsed_of s).blocks b) = laws.parts k.sizes (parsed_of s) b j here lt in
-        let unclaimed : is_some (option_map (λ es. sector_part j (dir_bytes 1024 es)) ((parsed_of s).blocks b)) ≡ false =
-        claim_none (λ (es : List DirEntry). sector_part j (dir_bytes 1024 es)) ((parsed_of s).blocks b)
-        (λ there. none_some (claim_of s.layout b) parts.1 (mapped_some (λ (x : Claim). x.entries) (claim_of s.layout b) there)) in
-        or_false (q == 0) (is_metadata vol (parsed_of s) q) (high k.sizes b j here) (ap is_some content ∙ unclaimed)
+        let here : IsTrue (is_data vol b) = subst (λ (w : Volume). is_data w b ≡ true) (same_volume k.sizes s m) holds.data_block in
+        let content : content_at vol (parsed_of s) q ≡ option_map (λ x. sector_part j (form_bytes 1024 x)) ((parsed_of s).forms b) = laws.parts k.sizes (parsed_of s) b j here lt in
+        let unnamed : is_some (option_map (λ x. sector_part j (form_bytes 1024 x)) ((parsed_of s).forms b)) ≡ false =
+        claim_none (λ (x : Form). sector_part j (form_bytes 1024 x)) ((parsed_of s).forms b)
+        (λ form. let there = laws.formed s b form in let no : true ≡ false = sym there.1 ∙ holds.unnamed there.0 in cc) in
+        or_false (q == 0) (is_metadata vol (parsed_of s) q) (high k.sizes b j here) (ap is_some content ∙ unnamed)
 
     module _ (job_is : k.job ≡ Idle) (homes : k.homes ≡ []) (gathered : k.gathered ≡ []) (free : k.log.closing ≡ None) (level : k.log.tail ≡ k.log.head) where
       begun_live_at : (t : Tape) → length t.ops ≡ k.first → IsBegun k.sizes s k.log.serial k.log.head t → IsLive o k t
@@ -172,7 +171,7 @@ module _ (k : Kernel) (s : State) (empty : k.history.items ≡ []) (committed : 
                 tail = sym level;
                 head = refl;
                 noted = λ q. subst (λ (hs : List AfterImage). IsNoted r q (noted_at hs q)) (sym homes) (λ x. refl);
-                apart = λ b j is lt. free_apart b j (subst (λ (x : State). is_free x.layout b ≡ true) present_is is) lt;
+                apart = λ b j holds lt. data_apart b j (subst (λ (x : State). HoldsData x.layout b) present_is holds) lt;
                 leads = subst (λ (hs : List AfterImage). Leads vol (parsed_of (state_at o k.history.items k.closing)) (parsed_of (present o k)) hs) (sym gathered)
                     (subst (λ (x : State). Leads vol (parsed_of x) (parsed_of (present o k)) []) (present_is ∙ sym (state_is k.closing)) (nothing vol (parsed_of (present o k))));
                 young = subst (λ (hs : List AfterImage). AreYoung (present o k) k.closing hs) (sym gathered) (λ b j data_ lt. tt);

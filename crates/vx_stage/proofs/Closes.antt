@@ -44,7 +44,7 @@ run_with o d e k run later log homes gathered ready job i j low order within = r
   durable = λ m. front_on o d k run i m low;
   mounted = run.mounted;
   mounted_now = run.mounted_now;
-  claimed = λ p b from inside there. run.claimed p b (omega (arith, low, from)) inside there;
+  named = λ p b from inside there. run.named p b (omega (arith, low, from)) inside there;
   waits = run.waits;
   pending = run.pending;
 }

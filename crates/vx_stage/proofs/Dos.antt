@@ -13,7 +13,7 @@ use Rattle.std.specs.FinMap as map
 use Rattle.vx_layout.specs.declared.superblock.Super.{Super}
 use Rattle.vx_stage.specs.declared.kernel.Job.TheVariants.{Broken}
 use Rattle.vx_dev.specs.Tape.{State as Device}
-use Rattle.vx_layout.specs.Dirs.{dir_bytes}
+use Rattle.vx_sound.specs.Reading.{Form, form_bytes}
 use Rattle.vx_layout.specs.LogForms.{AfterImage}
 use Rattle.vx_layout.specs.Places.{Volume, is_data, block_sector, sector_part}
 use Rattle.vx_layout.specs.Supers.{volume_of}
@@ -27,7 +27,7 @@ use Rattle.vx_model.specs.Step.{step}
 use Rattle.vx_model.specs.State.{State, Done}
 use Rattle.vx_model.specs.Waiting.{Waits, WaitingLaws}
 use Rattle.vx_wellformed.specs.WellFormed.{IsWellFormed, WellFormedLaws}
-use Rattle.vx_stage.specs.Growths.{called_state, IsGrowth, FreesNone, IsInUse, MayDo, MayRefuse, MayAnswer, MayStop}
+use Rattle.vx_stage.specs.Growths.{called_state, IsGrowth, KeepsApart, IsInUse, MayDo, MayRefuse, MayAnswer, MayStop}
 use Rattle.vx_stage.specs.KernelLaws.{KernelLaws}
 use Rattle.vx_stage.specs.Kernels.{IsMounted, HasRun, present}
 use Rattle.vx_stage.specs.Leads.{IsYoung, AreYoung}
@@ -41,7 +41,7 @@ waits_on here p old new (inr fresh) is = let both : Some here ≡ Some p = sym f
 
 young_on : (here place b : ℕ) (s new : State) → place ≤ here → Waits here s new → IsYoung s place b → IsYoung new place b
 young_on here place b s new le waits young = elim young [
-  | inl claimed ↦ elim (waits.claimed b claimed) [
+  | inl named ↦ elim (waits.named b named) [
     | inl still ↦ inl still
     | inr fresh ↦ inr (here, (fresh, le))
   ]
@@ -53,7 +53,7 @@ young_on here place b s new le waits young = elim young [
 
 -- a call leaves what it gives up waiting, and a refused one leaves all as it was
 same_waits : (place : ℕ) (s : State) → Waits place s s
-same_waits place s = record { same_volume = refl; same_device = refl; claimed = λ b there. inl there; pending = λ b. inl refl }
+same_waits place s = record { same_volume = refl; same_device = refl; named = λ b there. inl there; pending = λ b. inl refl }
 
 pub call_waits : WaitingLaws → (o : World) (d : Device) (k : Kernel) (session line : ℕ) (call : Call) (reply : Reply) → HasRun o d k → DoAllowed (after_all o k.history.items) session line call reply
     → Waits (length k.history.items) (present o k) (called_state o k session call reply)
@@ -93,8 +93,8 @@ module _ (laws : WaitingLaws) (well : WellFormedLaws) (o : World) (d : Device) (
     young = λ place b from inside young. young_on (length k.history.items) place b (present o k) (called_state o k session call reply) inside waits young;
   }
 
-  pub do_frees : FreesNone o k (event.Do at session line call reply)
-  do_frees b free = laws.free (present o k) (called_state o k session call reply) (length k.history.items) b waits free
+  pub do_frees : KeepsApart o k (event.Do at session line call reply)
+  do_frees b holds = laws.stays (present o k) (called_state o k session call reply) (length k.history.items) b waits holds
 
 -- ---- a refusal
 
@@ -159,20 +159,16 @@ claim_some : {A B : Type 0} (f : A → B) (x : Option A) (y : B) → option_map 
 claim_some f None y h = absurd cc
 claim_some f (Some a) y h = refl
 
--- what a transaction has of a data block's sectors is a directory's
+-- what a transaction has of a data block's sectors is metadata
 pub young_batch : (laws : KernelLaws) (k : Kernel) (old new : State) (place : ℕ) (batch : List AfterImage) → IsMounted k.sizes new → IsBatch (volume_of k.sizes) (parsed_of old) (parsed_of new) batch → AreYoung new place batch
 young_batch laws k old new place batch mounted is b i data_ lt = elim (note_cases batch (block_sector 2 b + i)) [
   | inl (image, found) ↦
       let here : IsTrue (is_data (volume_of k.sizes) b) = subst (λ (w : Volume). IsTrue (is_data w b)) (same_volume k.sizes new mounted) data_ in
       let content = sym (laws.parts k.sizes (parsed_of new) b i here lt) ∙ is_right (volume_of k.sizes) (parsed_of new) batch (block_sector 2 b + i) image is.right found in
-      let entries : is_some ((parsed_of new).blocks b) ≡ true = claim_some (λ (es : List DirEntry). sector_part i (dir_bytes 1024 es)) ((parsed_of new).blocks b) image content in
-      subst (λ (x : Option (List ℕ)). IfSome x (λ _. IsYoung new place b)) (sym found) (inl (mapped (λ (c : Claim). c.entries) (claim_of new.layout b) entries))
+      let form : is_some ((parsed_of new).forms b) ≡ true = claim_some (λ (x : Form). sector_part i (form_bytes 1024 x)) ((parsed_of new).forms b) image content in
+      subst (λ (x : Option (List ℕ)). IfSome x (λ _. IsYoung new place b)) (sym found) (inl (laws.formed new b form))
   | inr none ↦ subst (λ (x : Option (List ℕ)). IfSome x (λ _. IsYoung new place b)) (sym none) tt
 ]
-  where
-    mapped : {A B : Type 0} (f : A → B) (x : Option A) → is_some (option_map f x) ≡ true → is_some x ≡ true
-    mapped f None h = absurd cc
-    mapped f (Some y) h = refl
 
 -- ---- a release up to the committed prefix
 
@@ -187,11 +183,6 @@ kept_some upto p (Some q) h = here (nat_lt q upto) h
 kept_late : (upto p : ℕ) (x : Option ℕ) → x ≡ Some p → upto ≤ p → kept_pending upto x ≡ Some p
 kept_late upto p x is le = ap (kept_pending upto) is ∙ ap (λ (t : Bool). cond t None (Some p)) (le-ltb p upto le)
 
-same_claims : (l : Layout) (upto b n : ℕ) → claim_below (released l upto) b n ≡ claim_below l b n
-unfolding claim_below
-same_claims l upto b zero = refl
-same_claims l upto b (suc n) = ap (or_claim (claim_among n b (blocks_at l n))) (same_claims l upto b n)
-
 pub release_grows : WellFormedLaws → (o : World) (d : Device) (k : Kernel) (at : ℕ) → at ≡ d.count → HasRun o d k → IsInUse o k → IsGrowth o d k (event.Release at k.committed)
 release_grows well o d k at at_is run mounted = record {
   allowed = record { later = omega (arith, run.at, at_is); phase_is = mounted; comes = tt };
@@ -201,7 +192,7 @@ release_grows well o d k at at_is run mounted = record {
   mounted = record { well_formed = well.released (present o k) k.committed run.mounted_now.well_formed; log_blocks = run.mounted_now.log_blocks; units = run.mounted_now.units };
   pending = λ b p is. inl (kept_some k.committed p ((present o k).layout.pending b) is);
   young = λ place b from inside young. elim young [
-    | inl claimed ↦ inl (ap is_some (same_claims (present o k).layout k.committed b (128 * (present o k).layout.units)) ∙ claimed)
+    | inl named ↦ inl named
     | inr (p, old) ↦ inr (p, (kept_late k.committed p ((present o k).layout.pending b) old.0 (omega (arith, from, old.1)), old.1))
   ];
 }

@@ -11,12 +11,12 @@ use Rattle.vx_model.specs.Contents.{parsed_of, IsFormatted}
 use Rattle.vx_model.specs.Images as images
 use Rattle.vx_model.specs.Images.{is_metadata, contents}
 use Rattle.vx_wellformed.specs.WellFormed.{IsWellFormed}
-use Rattle.vx_model.specs.State.{State, fresh_of}
+use Rattle.vx_model.specs.State.{State, directory_blocks, fresh_of}
 use Rattle.vx_stage.specs.Kernels.{mounted_super, IsMounted, IsBegun}
 
 module _ (v : Super) (device_sectors : ℕ) where
   abbrev pub new : State
-  new = fresh_of v 1 device_sectors
+  new = fresh_of v directory_blocks device_sectors
 
   pub mounted : IsWellFormed new → IsMounted v new
   mounted well_formed = record { well_formed = well_formed; log_blocks = refl; units = refl }

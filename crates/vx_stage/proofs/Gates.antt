@@ -7,7 +7,7 @@ use Rattle.std.proofs.lemmas.Bool.{eqb-true}
 use Rattle.std.proofs.lemmas.List.Elements.{All-head, All-tail}
 use Rattle.vx_base.specs.declared.inode.DirEntry.{DirEntry}
 use Rattle.vx_dev.specs.Tape.{State as Device}
-use Rattle.vx_layout.specs.Dirs.{dir_bytes}
+use Rattle.vx_sound.specs.Reading.{Form, form_bytes}
 use Rattle.vx_layout.specs.LogForms.{AfterImage, IsNameable, IsRecord, LogState, log_length, records_of, overlay, overlay_all}
 use Rattle.vx_layout.specs.Places.{Volume, is_data, block_sector, sector_part}
 use Rattle.vx_layout.specs.Supers.{volume_of}
@@ -19,7 +19,8 @@ use Rattle.vx_log.specs.declared.log.Closing.{Closing}
 use Rattle.vx_log.specs.Batches.{with_notes, noted_at}
 use Rattle.vx_model.specs.Contents.{parsed_of}
 use Rattle.vx_model.specs.Images.{is_metadata, content_at}
-use Rattle.vx_model.specs.Layout.{Layout, Claim, volume, claim_of, is_free}
+use Rattle.vx_model.specs.Layout.{Layout, volume}
+use Rattle.vx_model.specs.LaidOut.{HoldsData}
 use Rattle.vx_model.specs.Legal.{World}
 use Rattle.vx_model.specs.State.{State}
 use Rattle.vx_stage.specs.Leads.{state_at}
@@ -49,38 +50,14 @@ pub or_false : (a b : Bool) → a ≡ false → b ≡ false → (a || b) ≡ fal
 or_false true b h k = absurd cc
 or_false false b h k = k
 
-and_left : (a b : Bool) → (a && b) ≡ true → a ≡ true
-and_left true b h = refl
-and_left false b h = absurd cc
-
-and_right : (a b : Bool) → (a && b) ≡ true → b ≡ true
-and_right true b h = h
-and_right false b h = absurd cc
-
 -- ---- blocks
 
--- a free block is claimed by no directory, and waits for nothing
-pub free_parts : (l : Layout) (b : ℕ) → is_free l b ≡ true → (is_data (volume l) b ≡ true) × (is_none (claim_of l b) ≡ true) × (is_none (l.pending b) ≡ true)
-unfolding is_free
-free_parts l b free =
-    let rest = and_right (is_data (volume l) b) (is_none (claim_of l b) && is_none (l.pending b)) free in
-    (and_left (is_data (volume l) b) (is_none (claim_of l b) && is_none (l.pending b)) free, and_left (is_none (claim_of l b)) (is_none (l.pending b)) rest, and_right (is_none (claim_of l b)) (is_none (l.pending b)) rest)
-
-pub none_some : {A : Type 0} (x : Option A) → is_none x ≡ true → is_some x ≡ true → ⊥
-none_some None h k = absurd cc
-none_some (Some a) h k = absurd cc
-
-none_pending : (x : Option ℕ) (p : ℕ) → is_none x ≡ true → x ≡ Some p → ⊥
-none_pending None p h k = absurd cc
-none_pending (Some q) p h k = absurd cc
-
-pub not_young : (s : State) (place b : ℕ) → is_free s.layout b ≡ true → IsYoung s place b → ⊥
-not_young s place b free young =
-    let parts = free_parts s.layout b free in
-    elim young [
-      | inl claimed ↦ none_some (claim_of s.layout b) parts.1 claimed
-      | inr (p, waits) ↦ none_pending (s.layout.pending b) p parts.2 waits.0
-    ]
+-- a block that may hold bytes holds no metadata, and waits for nothing
+pub not_young : (s : State) (place b : ℕ) → HoldsData s.layout b → IsYoung s place b → ⊥
+not_young s place b holds young = elim young [
+  | inl there ↦ let no : true ≡ false = sym there.1 ∙ holds.unnamed there.0 in cc
+  | inr (p, waits) ↦ let no : None ≡ Some p = sym holds.ready ∙ waits.0 in cc
+]
 
 noted_none : (x : Option (List ℕ)) (Y : Type 0) → IfSome x (λ _. Y) → (Y → ⊥) → is_some x ≡ false
 noted_none None Y h f = refl
@@ -225,24 +202,20 @@ module _ (laws : KernelLaws) (o : World) (k : Kernel) (a : Device) (run : HasRun
     | inr none ↦ subst (IsNoted next q) (sym (laws.notes.batch_other k.homes c.batch q none)) (still_noted q (noted_at k.homes q) none (l.noted q))
   ]
 
-  -- no free block becomes metadata: neither the closing state nor the batch has it
-  pub next_apart : (b j : ℕ) → is_free (present o k).layout b ≡ true → j < 2 → next_metadata (block_sector 2 b + j) ≡ false
-  next_apart b j free lt =
+  -- no block that may hold bytes becomes metadata: neither the closing state nor the batch has it
+  pub next_apart : (b j : ℕ) → HoldsData (present o k).layout b → j < 2 → next_metadata (block_sector 2 b + j) ≡ false
+  next_apart b j holds lt =
       let q : ℕ = block_sector 2 b + j in
       let s : State = present o k in
-      let data_ : is_data (volume s.layout) b ≡ true = (free_parts s.layout b free).0 in
+      let data_ : is_data (volume s.layout) b ≡ true = holds.data_block in
       let here : volume s.layout ≡ vol = same_volume k.sizes s (present_mounted) in
-      let content : content_at vol (parsed_of new) q ≡ option_map (λ es. sector_part j (dir_bytes 1024 es)) ((parsed_of new).blocks b) = laws.parts k.sizes (parsed_of new) b j (subst (λ (w : Volume). is_data w b ≡ true) here data_) lt in
-      let unclaimed : is_some (option_map (λ es. sector_part j (dir_bytes 1024 es)) ((parsed_of new).blocks b)) ≡ false =
-      claim_none (λ (es : List DirEntry). sector_part j (dir_bytes 1024 es)) ((parsed_of new).blocks b) (λ there. not_young s k.closing b free (run.claimed k.closing b run.order run.within (mapped_some (λ (x : Claim). x.entries) (claim_of new.layout b) there))) in
-      or_false (r.is_metadata q) _ (l.apart b j free lt)
+      let content : content_at vol (parsed_of new) q ≡ option_map (λ x. sector_part j (form_bytes 1024 x)) ((parsed_of new).forms b) = laws.parts k.sizes (parsed_of new) b j (subst (λ (w : Volume). is_data w b ≡ true) here data_) lt in
+      let unclaimed : is_some (option_map (λ x. sector_part j (form_bytes 1024 x)) ((parsed_of new).forms b)) ≡ false =
+      claim_none (λ (x : Form). sector_part j (form_bytes 1024 x)) ((parsed_of new).forms b) (λ there. not_young s k.closing b holds (run.named k.closing b run.order run.within (laws.formed new b there))) in
+      or_false (r.is_metadata q) _ (l.apart b j holds lt)
       (or_false (is_metadata vol (parsed_of new) q) (is_some (noted_at c.batch q)) (ap is_some content ∙ unclaimed)
-      (noted_none (noted_at c.batch q) (IsYoung s k.committed b) (l.batch_young c is b j data_ lt) (not_young s k.committed b free)))
+      (noted_none (noted_at c.batch q) (IsYoung s k.committed b) (l.batch_young c is b j data_ lt) (not_young s k.committed b holds)))
     where
-      mapped_some : {A B : Type 0} (f : A → B) (x : Option A) → is_some (option_map f x) ≡ true → is_some x ≡ true
-      mapped_some f None h = absurd cc
-      mapped_some f (Some y) h = refl
-
       present_mounted : IsMounted k.sizes (present o k)
       present_mounted = run.mounted_now
 

@@ -23,8 +23,9 @@ use Rattle.vx_layout.specs.declared.superblock.Super.{Super}
 use Rattle.vx_log.specs.Logs.{LogView}
 use Rattle.vx_log.specs.Batches.{noted_at}
 use Rattle.vx_model.specs.Contents.{parsed_of}
-use Rattle.vx_model.specs.Layout.{volume, is_free}
-use Rattle.vx_model.specs.Waiting.{is_claimed}
+use Rattle.vx_model.specs.Layout.{volume}
+use Rattle.vx_model.specs.LaidOut.{HoldsData}
+use Rattle.vx_model.specs.Waiting.{IsNamed}
 use Rattle.vx_stage.proofs.Showing.{same_volume}
 use Rattle.vx_dev.specs.Moments.{Told, Past}
 use Rattle.vx_model.specs.Allowed.{come_by, call_of, call_at, is_refusal}
@@ -36,7 +37,7 @@ use Rattle.vx_model.specs.State.{State}
 use Rattle.vx_model.proofs.Runs.{after_all-append, Legal-push}
 use Rattle.vx_model.specs.Allowed.{has_front, HoldsFront, IsAllowed}
 use Rattle.vx_stage.specs.Leads.{state_at}
-use Rattle.vx_stage.specs.Growths.{next_state, IsEarned, IsGrowth, FreesNone}
+use Rattle.vx_stage.specs.Growths.{next_state, IsEarned, IsGrowth, KeepsApart}
 use Rattle.vx_stage.specs.Kernels.{log_size, IsMounted, IsReadingOf, IsNoted, IsLevel, clean_super, HasRun, IsLogOf, IsTurning, Now, IsLive, present}
 use Rattle.vx_stage.specs.Leads.{Leads, IsYoung, AreYoung}
 use Rattle.vx_log.specs.Crashes.{Stands, Turns, IsCertainBody}
@@ -197,7 +198,7 @@ module _ (o : World) (d : Device) (k : Kernel) (e : Event) (run : HasRun o d k) 
   pub past_stays : (first : ℕ) (t : Tape) → length t.ops ≡ d.count → Past first (IsAllowed k.logging o h) t → Past first (IsAllowed k.logging o longer) t
   past_stays first t count past = past_by o d k e run.placed grows.at first t count past
 
-  -- what was claimed waits for the event or is claimed
+  -- what held metadata waits for the event or does so still
   pub still_young : (place : ℕ) (batch : List AfterImage) → k.committed ≤ place → place ≤ length h → AreYoung (present o k) place batch → AreYoung (next_state o k e) place batch
   still_young place batch from inside are b i data_ lt = weaker (noted_at batch (block_sector 2 b + i)) (are b i (subst (λ (v : Volume). IsTrue (is_data v b)) same data_) lt)
     where
@@ -245,10 +246,10 @@ module _ (o : World) (d : Device) (k : Kernel) (e : Event) (run : HasRun o d k) 
       durable = λ m. on_items (λ es. HoldsFront k2.logging es m k2.committed) (subst (λ (x : Logging). HoldsFront x longer m k2.committed) (sym logging) (subst (λ (n : ℕ). HoldsFront k.logging longer m n) (sym committed) (front_now m)));
       mounted = λ i le. subst (λ (v : Super). IsMounted v (state_at o k2.history.items i)) (sym sizes) (on_items (λ es. IsMounted k.sizes (state_at o es i)) (each_prefix o d k e (λ _ s. IsMounted k.sizes s) run.mounted (λ j high low. grows.mounted) i (omega (arith, le, long, one_more h e))));
       mounted_now = subst (λ (v : Super). IsMounted v (present o k2)) (sym sizes) (subst (IsMounted k.sizes) (sym now_state) grows.mounted);
-      claimed = λ i b low le there. subst (λ (s : State). IsYoung s i b) (sym now_state)
-          (each_prefix o d k e (λ j s. k.committed ≤ j → is_claimed s b ≡ true → IsYoung (next_state o k e) j b)
-          (λ j inside from claim. grows.young j b from inside (run.claimed j b from inside claim)) (λ j high low2 from claim. inl claim) i (omega (arith, le, long, one_more h e)) (omega (arith, low, committed))
-          (subst (λ (es : List Event). is_claimed (state_at o es i) b ≡ true) items there));
+      named = λ i b low le there. subst (λ (s : State). IsYoung s i b) (sym now_state)
+          (each_prefix o d k e (λ j s. k.committed ≤ j → IsNamed s b → IsYoung (next_state o k e) j b)
+          (λ j inside from claim. grows.young j b from inside (run.named j b from inside claim)) (λ j high low2 from claim. inl claim) i (omega (arith, le, long, one_more h e)) (omega (arith, low, committed))
+          (subst (λ (es : List Event). IsNamed (state_at o es i) b) items there));
       waits = λ i b p le pends lt. on_items (λ es. (state_at o es i).layout.pending b ≡ Some p)
           (each_prefix o d k e (λ j s. p < j → s.layout.pending b ≡ Some p)
           (λ j inside below. elim (grows.pending b p (now_pending b p pends)) [
@@ -284,14 +285,14 @@ module _ (o : World) (d : Device) (k : Kernel) (e : Event) (run : HasRun o d k) 
       at_prefix : (i : ℕ) (P : State → Type 0) → i ≤ length h → P (state_at o h i) → P (state_at o k2.history.items i)
       at_prefix i P le is = on_items (λ es. P (state_at o es i)) (subst P (sym (earlier_state o d k e i le)) is)
 
-      pub log_grows : (i : ℕ) (r : LogState) → i ≤ length h → (l : IsLogOf o k i r) → ((b j : ℕ) → is_free (next_state o k e).layout b ≡ true → j < 2 → r.is_metadata (block_sector 2 b + j) ≡ false) → IsLogOf o k2 i r
+      pub log_grows : (i : ℕ) (r : LogState) → i ≤ length h → (l : IsLogOf o k i r) → ((b j : ℕ) → HoldsData (next_state o k e).layout b → j < 2 → r.is_metadata (block_sector 2 b + j) ≡ false) → IsLogOf o k2 i r
       log_grows i r le l apart = record {
         reading = subst (λ (v : Super). IsReadingOf v (state_at o k2.history.items i) r) (sym sizes) (at_prefix i (λ s. IsReadingOf k.sizes s r) le l.reading);
         serial = l.serial ∙ sym (ap (λ (x : LogView). x.serial) log);
         tail = l.tail ∙ sym (ap (λ (x : LogView). x.tail) log);
         head = l.head ∙ sym (ap (λ (x : LogView). x.head) log);
         noted = λ q. subst (λ (hs : List AfterImage). IsNoted r q (noted_at hs q)) (sym homes) (l.noted q);
-        apart = λ b j free lt. apart b j (subst (λ (s : State). is_free s.layout b ≡ true) now_state free) lt;
+        apart = λ b j holds lt. apart b j (subst (λ (s : State). HoldsData s.layout b) now_state holds) lt;
         leads = subst (λ (v : Super). Leads (volume_of v) (parsed_of (state_at o k2.history.items k2.closing)) (parsed_of (present o k2)) k2.gathered) (sym sizes)
             (subst (λ (n : ℕ). Leads (volume_of k.sizes) (parsed_of (state_at o k2.history.items n)) (parsed_of (present o k2)) k2.gathered) (sym closing)
             (at_prefix k.closing (λ s. Leads (volume_of k.sizes) (parsed_of s) (parsed_of (present o k2)) k2.gathered) run.within
@@ -322,12 +323,12 @@ module _ (o : World) (d : Device) (k : Kernel) (e : Event) (run : HasRun o d k) 
           (subst (λ (x : LogView). IsLevel k.sizes (state_at o k2.history.items k2.committed) x.serial x.head t) (sym log)
           (on_committed (λ s. IsLevel k.sizes s k.log.serial k.log.head t) is))
 
-      module _ (frees : FreesNone o k e) where
+      module _ (keeps : KeepsApart o k e) where
         committed_log : (r : LogState) → IsLogOf o k k.committed r → IsLogOf o k2 k2.committed r
-        committed_log r l = subst (λ (n : ℕ). IsLogOf o k2 n r) (sym committed) (log_grows k.committed r (omega (arith, run.order, run.within)) l (λ b j free lt. l.apart b j (frees b free) lt))
+        committed_log r l = subst (λ (n : ℕ). IsLogOf o k2 n r) (sym committed) (log_grows k.committed r (omega (arith, run.order, run.within)) l (λ b j holds lt. l.apart b j (keeps b holds) lt))
 
         closing_log : (r : LogState) → IsLogOf o k k.closing r → IsLogOf o k2 k2.closing r
-        closing_log r l = subst (λ (n : ℕ). IsLogOf o k2 n r) (sym closing) (log_grows k.closing r run.within l (λ b j free lt. l.apart b j (frees b free) lt))
+        closing_log r l = subst (λ (n : ℕ). IsLogOf o k2 n r) (sym closing) (log_grows k.closing r run.within l (λ b j holds lt. l.apart b j (keeps b holds) lt))
 
         on_size : (P : ℕ → Type 0) → P (log_size k.sizes) → P (log_size k2.sizes)
         on_size P is = subst (λ (v : Super). P (log_size v)) (sym sizes) is

@@ -20,7 +20,7 @@ use Rattle.vx_model.specs.AllowedLaws.{IsPlaced}
 use Rattle.vx_model.specs.Legal.{World, Allowed, Legal, at_of, after_all}
 use Rattle.vx_model.specs.Replays.{IsLeft}
 use Rattle.vx_model.specs.State.{State}
-use Rattle.vx_model.specs.Waiting.{is_claimed}
+use Rattle.vx_model.specs.Waiting.{IsNamed}
 use Rattle.vx_model.proofs.Runs.{after_all-append, Legal-push}
 use Rattle.vx_model.specs.Allowed.{has_front, HoldsFront, IsAllowed}
 use Rattle.vx_stage.specs.Leads.{state_at}
@@ -161,7 +161,7 @@ module _ (o : World) (d : Device) (k : Kernel) (run : HasRun o d k) (over : IsOv
       durable = λ m. on_items (λ es. HoldsFront k.logging es m n) (front_all m);
       mounted = λ i le. on_items (λ es. IsMounted k.sizes (state_at o es i)) (each_prefix o d k e (λ _ s. IsMounted k.sizes s) run.mounted (λ j high low. run.mounted_now) i (omega (arith, le, long, one_more h e)));
       mounted_now = subst (IsMounted k.sizes) (sym same_now) run.mounted_now;
-      claimed = λ i b low le there. inl (subst (λ (s : State). is_claimed s b ≡ true) (on_items (λ es. state_at o es i ≡ present o k) (whole_state o d k e i (omega (arith, low, n_is)) (omega (arith, le, long, one_more h e))) ∙ sym same_now) there);
+      named = λ i b low le there. inl (subst (λ (s : State). IsNamed s b) (on_items (λ es. state_at o es i ≡ present o k) (whole_state o d k e i (omega (arith, low, n_is)) (omega (arith, le, long, one_more h e))) ∙ sym same_now) there);
       waits = λ i b p le pends lt. on_items (λ es. (state_at o es i).layout.pending b ≡ Some p)
           (each_prefix o d k e (λ j s. p < j → s.layout.pending b ≡ Some p)
           (λ j inside below. run.waits j b p inside (subst (λ (s : State). s.layout.pending b ≡ Some p) same_now pends) below)

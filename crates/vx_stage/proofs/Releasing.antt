@@ -7,7 +7,7 @@ use Rattle.vx_base.specs.declared.event.Event.{Event}
 use Rattle.vx_base.specs.declared.event.Event.TheVariants as event
 use Rattle.vx_base.specs.declared.inode.DirEntry.{DirEntry}
 use Rattle.vx_dev.specs.Tape.{Tape, State as Device, IsInStep}
-use Rattle.vx_layout.specs.Dirs.{dir_bytes}
+use Rattle.vx_sound.specs.Reading.{Form, form_bytes}
 use Rattle.vx_layout.specs.LogForms.{AfterImage, LogState}
 use Rattle.vx_layout.specs.Places.{Volume, first_data, is_data, per_block, block_sector, sector_part}
 use Rattle.vx_layout.specs.Supers.{IsSuper, volume_of}
@@ -16,7 +16,8 @@ use Rattle.vx_dev.specs.Moments.{Told, Past}
 use Rattle.vx_log.specs.Batches.{noted_at}
 use Rattle.vx_model.specs.Contents.{parsed_of}
 use Rattle.vx_model.specs.Images.{Parsed, is_metadata, content_at}
-use Rattle.vx_model.specs.Layout.{Claim, volume, claim_of, is_free}
+use Rattle.vx_model.specs.Layout.{volume}
+use Rattle.vx_model.specs.LaidOut.{HoldsData}
 use Rattle.vx_model.specs.Legal.{World}
 use Rattle.vx_model.specs.State.{State}
 use Rattle.vx_model.specs.Allowed.{IsAllowed}
@@ -28,13 +29,9 @@ use Rattle.vx_stage.specs.Leads.{Leads, AreYoung}
 use Rattle.vx_stage.specs.declared.kernel.Job.{Job}
 use Rattle.vx_stage.specs.declared.kernel.Job.TheVariants.{Idle}
 use Rattle.vx_stage.specs.declared.kernel.Kernel.{Kernel}
-use Rattle.vx_stage.proofs.Gates.{or_right, or_cases, or_false, free_parts, not_young, claim_none}
+use Rattle.vx_stage.proofs.Gates.{or_right, or_cases, or_false, not_young, claim_none}
 use Rattle.vx_stage.proofs.Growing.{log_grows, past_stays, still_young}
 use Rattle.vx_stage.proofs.Showing.{same_volume}
-
-pub mapped_some : {A B : Type 0} (f : A → B) (x : Option A) → is_some (option_map f x) ≡ true → is_some x ≡ true
-mapped_some f None h = absurd cc
-mapped_some f (Some y) h = refl
 
 not_more : (x y : Bool) → (IsTrue x → IsTrue y) → y ≡ false → x ≡ false
 not_more false y f h = refl
@@ -90,17 +87,17 @@ module _ (laws : KernelLaws) (o : World) (d : Device) (k : Kernel) (at : ℕ) (i
     unnamed = reading.unnamed;
   }
 
-  -- a block that is free then was claimed by no directory of the committed state
-  free_then : (b j : ℕ) → is_free (next_state o k e).layout b ≡ true → j < 2 → only (block_sector 2 b + j) ≡ false
-  free_then b j free lt =
+  -- a block that may hold bytes then held no metadata in the committed state
+  free_then : (b j : ℕ) → HoldsData (next_state o k e).layout b → j < 2 → only (block_sector 2 b + j) ≡ false
+  free_then b j holds lt =
       let q : ℕ = block_sector 2 b + j in
       let next : State = next_state o k e in
-      let data_ : is_data (volume next.layout) b ≡ true = (free_parts next.layout b free).0 in
+      let data_ : is_data (volume next.layout) b ≡ true = holds.data_block in
       let here : IsTrue (is_data vol b) = subst (λ (w : Volume). is_data w b ≡ true) (same_volume k.sizes next grows.mounted) data_ in
-      let content : content_at vol (parsed_of s_c) q ≡ option_map (λ es. sector_part j (dir_bytes 1024 es)) ((parsed_of s_c).blocks b) = laws.parts k.sizes (parsed_of s_c) b j here lt in
-      let unclaimed : is_some (option_map (λ es. sector_part j (dir_bytes 1024 es)) ((parsed_of s_c).blocks b)) ≡ false =
-      claim_none (λ (es : List DirEntry). sector_part j (dir_bytes 1024 es)) ((parsed_of s_c).blocks b)
-      (λ there. not_young next k.committed b free (grows.young k.committed b (omega arith) inside (run.claimed k.committed b (omega arith) inside (mapped_some (λ (x : Claim). x.entries) (claim_of s_c.layout b) there)))) in
+      let content : content_at vol (parsed_of s_c) q ≡ option_map (λ x. sector_part j (form_bytes 1024 x)) ((parsed_of s_c).forms b) = laws.parts k.sizes (parsed_of s_c) b j here lt in
+      let unclaimed : is_some (option_map (λ x. sector_part j (form_bytes 1024 x)) ((parsed_of s_c).forms b)) ≡ false =
+      claim_none (λ (x : Form). sector_part j (form_bytes 1024 x)) ((parsed_of s_c).forms b)
+      (λ there. not_young next k.committed b holds (grows.young k.committed b (omega arith) inside (run.named k.committed b (omega arith) inside (laws.formed s_c b there)))) in
       or_false (q == 0) (is_metadata vol (parsed_of s_c) q) (high k.sizes b j here) (ap is_some content ∙ unclaimed)
 
   opens : (i : ℕ) (r : LogState) → IsLogOf o k i r → Leads vol (parsed_of (state_at o k.history.items k.closing)) (parsed_of (next_state o k e)) k.gathered × AreYoung (next_state o k e) k.closing k.gathered

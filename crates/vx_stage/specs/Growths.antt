@@ -9,7 +9,7 @@ use Rattle.vx_base.specs.declared.reply.Reply.{Reply}
 use Rattle.vx_dev.specs.Tape as dev
 use Rattle.vx_model.specs.Allowed.{call_at, is_refusal}
 use Rattle.vx_model.specs.AllowedLaws.{IsPlaced}
-use Rattle.vx_model.specs.Layout.{is_free}
+use Rattle.vx_model.specs.LaidOut.{HoldsData}
 use Rattle.vx_model.specs.LaidOut.{IsLaidOut}
 use Rattle.vx_model.specs.Legal.{World, in_use, stopping, Allowed, DoAllowed, RetAllowed, IfThere, is_any_time, is_idle, at_of, after, after_all, state_after}
 use Rattle.vx_model.specs.Step.{step}
@@ -38,13 +38,13 @@ pub record IsGrowth (o : World) (d : dev.State) (k : Kernel) (e : Event) : Type 
   pub placed : IsPlaced (length k.history.items) e
   pub earned : IsEarned k e
   pub mounted : IsMounted k.sizes (next_state o k e)
-  -- blocks begin to wait for this event alone, and what was claimed waits for it or is claimed
+  -- blocks begin to wait for this event alone, and what held metadata waits for it or does so still
   pub pending : (b p : ℕ) → (next_state o k e).layout.pending b ≡ Some p → ((present o k).layout.pending b ≡ Some p) ⊎ (p ≡ length k.history.items)
   pub young : (place b : ℕ) → k.committed ≤ place → place ≤ length k.history.items → IsYoung (present o k) place b → IsYoung (next_state o k e) place b
 
--- ... and frees no block
-abbrev pub FreesNone : World → Kernel → Event → Type 0
-FreesNone o k e = (b : ℕ) → is_free (next_state o k e).layout b ≡ true → is_free (present o k).layout b ≡ true
+-- ... and no block that held metadata may hold bytes after it
+abbrev pub KeepsApart : World → Kernel → Event → Type 0
+KeepsApart o k e = (b : ℕ) → HoldsData (next_state o k e).layout b → HoldsData (present o k).layout b
 
 -- ---- what may come, of each kind
 

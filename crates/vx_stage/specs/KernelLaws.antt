@@ -1,12 +1,13 @@
 -- What the stages rest on: laws of the tape, of the log and of images.
-use Rattle.std.specs.Prelude.{◌≡◌, ◌⊎◌, ◌*◌, ◌<◌, ◌≤◌, ◌+◌, ◌^◌, option_map, ℕ, Bool, false, IsTrue, List, length, Contains, slice_range}
+use Rattle.std.specs.Prelude.{true, is_some, ◌≡◌, ◌⊎◌, ◌*◌, ◌<◌, ◌≤◌, ◌+◌, ◌^◌, option_map, ℕ, Bool, false, IsTrue, List, length, Contains, slice_range}
 use Rattle.std.specs.List.{AllByRecursion}
 use Rattle.std.specs.List.Sorted.{IsStrictlyIncreasing}
 use Rattle.vx_dev.specs.declared.device.Operation.TheVariants.{Put, Barrier}
 use Rattle.vx_dev.specs.Laws.{TapeLaws}
 use Rattle.vx_dev.specs.Tape.{Tape, State as Device, Did, Failed, IsImage, did}
 use Rattle.vx_layout.specs.LogForms.{AfterImage, IsNameable, IsRecord, LogState, ReadsAs, log_length, body_of, records_of, overlay, overlay_all, head_of, head_sector}
-use Rattle.vx_layout.specs.Dirs.{dir_bytes}
+use Rattle.vx_sound.specs.Reading.{form_bytes}
+use Rattle.vx_model.specs.Waiting.{IsNamed}
 use Rattle.vx_layout.specs.Places.{is_data, block_sector, sector_part, sectors_of as volume_sectors}
 use Rattle.vx_layout.specs.Supers.{IsSuper, volume_of}
 use Rattle.vx_layout.specs.declared.superblock.Super.{Super}
@@ -36,7 +37,9 @@ pub record KernelLaws : Type 0 where
   pub sizes_fit : (v : Super) → IsSuper v → volume_sectors (volume_of v) ≤ 2 ^ 32
   pub says_stands : (v : Super) (p : Parsed) (r : LogState) (image : ℕ → List ℕ) → Says (volume_of v) p r → ReadsAs (2 * v.log_blocks) r image → images.Stands (volume_of v) p (λ s. overlay_all r.records s (image s))
   pub parts : (v : Super) (p : Parsed) (b i : ℕ) → IsTrue (is_data (volume_of v) b) → i < 2
-      → content_at (volume_of v) p (block_sector 2 b + i) ≡ option_map (λ es. sector_part i (dir_bytes 1024 es)) (p.blocks b)
+      → content_at (volume_of v) p (block_sector 2 b + i) ≡ option_map (λ x. sector_part i (form_bytes 1024 x)) (p.forms b)
+  -- and a block with a form is one of the metadata
+  pub formed : (s : State) (b : ℕ) → is_some ((parsed_of s).forms b) ≡ true → IsNamed s b
   pub reads : (s : State) (image : ℕ → List ℕ) → IsLaidOut s → images.Stands (volume s.layout) (parsed_of s) image → ImageReadsAs (volume s.layout) image s.tree
   pub sound : (s : State) (image : ℕ → List ℕ) → IsWellFormed s → images.Stands (volume s.layout) (parsed_of s) image → IsSound false (volume s.layout) image
   pub released : (s : State) (upto : ℕ) → parsed_of (with_released s upto) ≡ parsed_of s

@@ -17,12 +17,12 @@ use Rattle.vx_log.specs.Batches.{noted_at}
 use Rattle.vx_model.specs.AllowedLaws.{IsPlaced}
 use Rattle.vx_model.specs.Contents.{parsed_of}
 use Rattle.vx_model.specs.Images.{Says, is_metadata, contents}
-use Rattle.vx_model.specs.Layout.{is_free}
 use Rattle.vx_wellformed.specs.WellFormed.{IsWellFormed}
 use Rattle.vx_model.specs.Legal.{World, Waiting, Legal, at_of, after_all}
 use Rattle.vx_model.specs.Replays.{IsLeft}
 use Rattle.vx_model.specs.State.{State}
-use Rattle.vx_model.specs.Waiting.{is_claimed}
+use Rattle.vx_model.specs.LaidOut.{HoldsData}
+use Rattle.vx_model.specs.Waiting.{IsNamed}
 use Rattle.vx_model.specs.Allowed.{HoldsFront, IsAllowed}
 use Rattle.vx_stage.specs.Leads.{state_at}
 use Rattle.vx_stage.specs.Leads.{Leads, IsYoung, AreYoung}
@@ -148,8 +148,8 @@ pub record HasRun (o : World) (d : dev.State) (k : Kernel) : Type 0 where
   -- each prefix leads to a state that the device can hold, in which blocks that still wait have waited
   pub mounted : (i : ℕ) → i ≤ length k.history.items → IsMounted k.sizes (state_at o k.history.items i)
   pub mounted_now : IsMounted k.sizes (present o k)
-  -- a block that a later prefix than the committed one claims is claimed still, or waits for an event behind that prefix
-  pub claimed : (i b : ℕ) → k.committed ≤ i → i ≤ length k.history.items → is_claimed (state_at o k.history.items i) b ≡ true → IsYoung (present o k) i b
+  -- a block that holds metadata behind a later prefix than the committed one does so still, or waits for an event behind that prefix
+  pub named : (i b : ℕ) → k.committed ≤ i → i ≤ length k.history.items → IsNamed (state_at o k.history.items i) b → IsYoung (present o k) i b
   pub waits : (i b p : ℕ) → i ≤ length k.history.items → (present o k).layout.pending b ≡ Some p → p < i → (state_at o k.history.items i).layout.pending b ≡ Some p
   -- blocks wait for events that have come
   pub pending : (b p : ℕ) → (present o k).layout.pending b ≡ Some p → p < length k.history.items
@@ -163,8 +163,8 @@ pub record IsLogOf (o : World) (k : Kernel) (i : ℕ) (r : LogState) : Type 0 wh
   pub tail : r.tail ≡ k.log.tail
   pub head : r.head ≡ k.log.head
   pub noted : (q : ℕ) → IsNoted r q (noted_at k.homes q)
-  -- no free block was metadata since the log was empty
-  pub apart : (b j : ℕ) → is_free (present o k).layout b ≡ true → j < 2 → r.is_metadata (block_sector 2 b + j) ≡ false
+  -- no block that may hold bytes was metadata since the log was empty
+  pub apart : (b j : ℕ) → HoldsData (present o k).layout b → j < 2 → r.is_metadata (block_sector 2 b + j) ≡ false
   -- the open batch leads from the closing state to the present one, and the closing batch from the committed to the closing one
   pub leads : Leads (volume_of k.sizes) (parsed_of (state_at o k.history.items k.closing)) (parsed_of (present o k)) k.gathered
   pub young : AreYoung (present o k) k.closing k.gathered

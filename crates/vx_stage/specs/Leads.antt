@@ -8,7 +8,7 @@ use Rattle.vx_model.specs.Images.{Parsed, content_at, IsSame}
 use Rattle.vx_model.specs.Layout.{volume}
 use Rattle.vx_model.specs.Legal.{World, after_all}
 use Rattle.vx_model.specs.State.{State}
-use Rattle.vx_model.specs.Waiting.{is_claimed}
+use Rattle.vx_model.specs.Waiting.{IsNamed}
 
 -- What the batch has of a sector is right for what is said now, where that says anything of it: a sector that was metadata for a
 -- while may have an image still. What the batch lacks is as it was.
@@ -19,9 +19,9 @@ IsRight v old new s None = IsSame v old new s
 abbrev pub Leads : Volume → Parsed → Parsed → List AfterImage → Type 0
 Leads v old new batch = (s : ℕ) → IsRight v old new s (noted_at batch s)
 
--- A directory has the block, or it waits for an event at this place or later.
+-- The block holds metadata, or it waits for an event at this place or later.
 abbrev pub IsYoung : State → ℕ → ℕ → Type 0
-IsYoung s place b = (is_claimed s b ≡ true) ⊎ ((p : ℕ) × ((s.layout.pending b ≡ Some p) × (place ≤ p)))
+IsYoung s place b = IsNamed s b ⊎ ((p : ℕ) × ((s.layout.pending b ≡ Some p) × (place ≤ p)))
 
 -- each data block that the batch has a sector of is one of these
 abbrev pub AreYoung : State → ℕ → List AfterImage → Type 0

@@ -9,7 +9,7 @@ ghost use Rattle.vx_layout.specs.Supers.{IsSuper};
 ghost use Rattle.vx_dev.specs.Moments.{Told, Passed};
 ghost use Rattle.vx_model.specs.Legal.{opening};
 ghost use Rattle.vx_model.specs.Replays.{ReplaysAs};
-ghost use Rattle.vx_model.specs.State.{State, fresh_of};
+ghost use Rattle.vx_model.specs.State.{State, directory_blocks, fresh_of};
 ghost use Rattle.vx_stage.specs.Kernels.{log_size, device_size, IsFit, IsFitAlone, IsMounted, IsLevel, IsBegun, HasRun, IsLive};
 ghost use Rattle.vx_stage.specs.declared.kernel.Job.TheVariants.{Idle};
 
@@ -115,8 +115,8 @@ pub fn new_mount<D: BlockDev>(
     requires ready { room.ready ≡ [] }
     requires history { room.history.items ≡ [] }
     ensures fit { IfOk result (IsFit (D.state dev.new)) }
-    ensures run { IfOk result (HasRun (opening (D.state dev.new).count (fresh_of sizes 1 (D.state dev.old).size)) (D.state dev.new)) }
-    ensures live { IfOk result (λ k. Told (D.state dev.new) (IsLive (opening (D.state dev.new).count (fresh_of sizes 1 (D.state dev.old).size)) k)) }
+    ensures run { IfOk result (HasRun (opening (D.state dev.new).count (fresh_of sizes directory_blocks (D.state dev.old).size)) (D.state dev.new)) }
+    ensures live { IfOk result (λ k. Told (D.state dev.new) (IsLive (opening (D.state dev.new).count (fresh_of sizes directory_blocks (D.state dev.old).size)) k)) }
     ensures empty { IfOk result (λ k. k.history.items ≡ []) }
     ensures same { IfOk result (λ k. k ≡ record { sizes = sizes; logging = logging; first = (D.state dev.new).count; log = room.log; homes = room.homes; gathered = room.gathered; ready = Some room.ready; job = Idle; committed = 0; closing = 0; history = room.history }) }
     ensures onward { Onward (D.state dev.old) (D.state dev.new) }

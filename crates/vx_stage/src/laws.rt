@@ -13,6 +13,7 @@ use vx_model::allowed::allowed_laws;
 use vx_model::edits::edit_laws;
 use vx_model::images::{log_says, metadata, sector_contents};
 use vx_model::states::state_reads;
+use vx_model::waiting::waiting_laws;
 use vx_sound::sound_laws;
 use vx_wellformed::laws::state_sound;
 
@@ -47,4 +48,5 @@ pub fn kernel_laws()
     sound_laws();
     edit_laws();
     allowed_laws();
+    waiting_laws();
 }

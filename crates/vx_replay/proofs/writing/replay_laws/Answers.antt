@@ -25,5 +25,5 @@ returns c = record {
   records = c.log_spelling.ensures.records;
   volume = c.super_places.ensures.volume;
   past_log = c.super_places.ensures.past_log;
-  alike = λ v a b t is_volume same h. record { sound = c.sound_alike.ensures false v a b is_volume same h.sound; reads = c.reads_alike.ensures v a b t is_volume same h.reads };
+  alike = λ v a b t is_volume same h. record { sound = c.sound_alike.ensures false v a b is_volume same h.sound; reads = c.reads_alike.ensures false v a b t is_volume same h.sound h.reads };
 }

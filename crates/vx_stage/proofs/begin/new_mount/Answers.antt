@@ -4,6 +4,7 @@ use Rattle.vx_log.specs.Logs.{LogView}
 use Rattle.vx_dev.specs.Moments.{Told}
 use Rattle.vx_model.specs.Contents.{parsed_of}
 use Rattle.vx_model.specs.Legal.{opening}
+use Rattle.vx_model.specs.State.{directory_blocks}
 use Rattle.vx_stage.specs.Kernels.{IsBegun, HasRun, IsLive}
 use Rattle.vx_stage.proofs.Formatted.{new, mounted, told_begun}
 use Rattle.vx_stage.proofs.begin.new_mount.Goals as goal
@@ -13,7 +14,7 @@ returns-clause-run g c =
     let v = c.args.sizes in
     let size = (g.D.BlockDev.state c.args.dev.now).size in
     let d = g.D.BlockDev.state c.make.new.dev in
-    let fits = c.well_formed_laws.ensures.fresh v 1 size c.requires.is (lit≤ tt) c.requires.size in
+    let fits = c.well_formed_laws.ensures.fresh v directory_blocks size c.requires.is (lit≤ tt) c.requires.size in
     subst (λ (n : ℕ). HasRun (opening n (new v size)) d c.begin.result) c.ops-first.ensures.number
     (c.begin.ensures.run (new v size) d (mounted v size fits) (λ b. refl) (omega (arith, c.ops-first.ensures.number)))
 
@@ -22,8 +23,8 @@ returns-clause-live g c =
     let v = c.args.sizes in
     let size = (g.D.BlockDev.state c.args.dev.now).size in
     let d = g.D.BlockDev.state c.make.new.dev in
-    let fits = c.well_formed_laws.ensures.fresh v 1 size c.requires.is (lit≤ tt) c.requires.size in
-    let begun = told_begun v size (λ image is. c.fresh_reads.ensures.stands v 1 size image c.requires.is is)
+    let fits = c.well_formed_laws.ensures.fresh v directory_blocks size c.requires.is (lit≤ tt) c.requires.size in
+    let begun = told_begun v size (λ image is. c.fresh_reads.ensures.stands v directory_blocks size image c.requires.is is)
     (λ image stands q there. c.metadata.ensures.holds (volume_of v) (parsed_of (new v size)) image stands q there) d c.in_ok-make.ensures.new in
     subst (λ (n : ℕ). Told d (IsLive (opening n (new v size)) c.begin.result)) c.ops-first.ensures.number
     (c.begin.ensures.live (new v size) d (mounted v size fits) c.ops-first.ensures.number (g.met.D.BlockDev.in_step c.make.new.dev)

@@ -9,6 +9,7 @@ returns c = record {
   sizes_fit = c.super_places.ensures.fits;
   says_stands = λ v p r image says reads. c.log_says.ensures.stands (2 * v.log_blocks) (volume_of v) p r image says reads;
   parts = λ v p b i data_ lt. c.sector_contents.ensures.parts (volume_of v) p b i (c.super_places.ensures.volume v) data_ lt;
+  formed = c.waiting_laws.ensures.formed;
   reads = c.state_reads.ensures;
   sound = λ s image is stands. c.sound_laws.ensures.weaker (volume s.layout) image (c.state_sound.ensures.state s image is stands);
   released = λ s upto. c.edit_laws.ensures.released_says s upto;
