@@ -15,7 +15,7 @@ use Rattle.vx_base.specs.declared.refusal.Refusal.{Refusal}
 use Rattle.vx_base.specs.declared.reply.Reply.{Reply}
 use Rattle.vx_base.specs.declared.reply.Reply.TheVariants as say
 use Rattle.vx_dir.specs.Sizes.{Entries}
-use Rattle.vx_dir.specs.Directories.{is_named, place_of, inode_in}
+use Rattle.vx_dir.specs.Directories.{Directory as Names, IsKept, all_entries, entry_count, is_named, place_of, inode_in}
 use Rattle.vx_model.specs.Outcome.{Maybe}
 use Rattle.vx_model.specs.Reads.{entries_from, name_to_inode}
 use Rattle.vx_model.specs.State.{State, Done, settled}
@@ -24,10 +24,10 @@ use Rattle.vx_txn.specs.Calls.{HasGone, IsDone, IsSettled}
 use Rattle.vx_txn.specs.Metas.{Stands}
 use Rattle.vx_txn.specs.Replies.{FitsReply, IsShort, IsSound}
 use Rattle.vx_txn.specs.declared.meta.Meta.{Meta}
-use Rattle.vx_txn.proofs.EntryLaws.{get_entries, count_cons}
+use Rattle.vx_txn.proofs.EntryLaws.{get_entries, count_cons, count_all, length_all}
 
 pub same_touched : (s : State) → IsTouched s s untouched
-same_touched s = record { same_volume = refl; inodes = λ n no. refl; directories = λ n no. refl; units = λ u j h no. refl }
+same_touched s = record { same_volume = refl; inodes = λ n no. refl; blocks = λ n i d no got. got; maps = λ n k c no got. got; units = λ u j h no. refl }
 
 module _ (m : Meta) (s : State) (is : Stands m s) where
   pub stays : HasGone s s m untouched
@@ -66,6 +66,13 @@ len_entries (e ∷ es) distinct =
     map.len-insert nat_list_cmp_total (entries_from es) e.name e.ino
     ∙ ap (λ (b : Bool). cond b (map.len (entries_from es)) (map.len (entries_from es) + 1)) new
     ∙ (let rest = len_entries es (λ name. let c = count_cons (is_named name) (is_named name e) e es refl in let most = distinct name in omega arith) in omega arith)
+
+-- each name stands once
+pub distinct_names : (d : Names) → IsKept d → (name : FileName) → count_by (is_named name) (all_entries d) ≤ 1
+distinct_names d kept name = let few = kept.distinct name in let count = count_all name d.blocks in omega arith
+
+pub counted_names : (d : Names) → IsKept d → map.len (entries_from (all_entries d)) ≡ entry_count d
+counted_names d kept = len_entries (all_entries d) (distinct_names d kept) ∙ length_all d.blocks
 
 pub some_of : {A : Type 0} (o : Option A) → is_some o ≡ true → (x : A) × (o ≡ Some x)
 some_of None is = absurd (cc)

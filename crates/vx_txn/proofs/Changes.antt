@@ -10,15 +10,16 @@ use Rattle.vx_inode.specs.Tables.{Table, inode_at, with_inode, with_change, chan
 use Rattle.vx_model.specs.EditLaws.{EditLaws}
 use Rattle.vx_model.specs.Edits.{set_node}
 use Rattle.vx_model.specs.LaidOut.{IsLaidOut}
-use Rattle.vx_model.specs.Layout.{Layout, DirectoryBlock, blocks_at, is_free}
+use Rattle.vx_model.specs.Contents.{Held, settled_of}
+use Rattle.vx_model.specs.Layout.{Layout, DirectoryBlock, blocks_at, maps_at, space_at, is_free}
 use Rattle.vx_model.specs.State.{State}
-use Rattle.vx_model.specs.Touching.{Touched, IsTouched, joined, inode_touched, entries_touched, blocks_touched}
+use Rattle.vx_model.specs.Touching.{Touched, IsTouched, joined, inode_touched, entries_touched}
 use Rattle.vx_model.specs.Tree.{Node}
 use Rattle.vx_txn.specs.Calls.{HasGone}
-use Rattle.vx_txn.specs.Directories.{DirectoryValue, blocks_in}
+use Rattle.vx_txn.specs.Directories.{DirectoryValue, blocks_in, maps_in}
 use Rattle.vx_txn.specs.Metas.{HasDirectory, directory_of, IsStateOf, IsUnchanged, Stands}
 use Rattle.vx_txn.specs.declared.meta.Meta.{Meta}
-use Rattle.vx_txn.proofs.StateLaws.{inode_of_node, inode_of_option}
+use Rattle.vx_txn.proofs.StateLaws.{inode_of_node, inode_of_option, same_held}
 
 pub record MetaChange (m k : Meta) (at : ℕ) : Type 0 where
   pub inodes : (n : ℕ) → n ≢ at → inode_at k.inodes n ≡ inode_at m.inodes n
@@ -29,14 +30,17 @@ pub record MetaChange (m k : Meta) (at : ℕ) : Type 0 where
 pub record StateChange (s t : State) (at : ℕ) : Type 0 where
   pub nodes : (n : ℕ) → n ≢ at → map.get t.tree.nodes n ≡ map.get s.tree.nodes n
   pub blocks : (n : ℕ) → n ≢ at → blocks_at t.layout n ≡ blocks_at s.layout n
+  pub maps : (n : ℕ) → n ≢ at → maps_at t.layout n ≡ maps_at s.layout n
+  pub spaces : (n : ℕ) → n ≢ at → space_at t.layout n ≡ space_at s.layout n
   pub units : t.layout.units ≡ s.layout.units
   pub log_blocks : t.layout.log_blocks ≡ s.layout.log_blocks
   pub limit : t.layout.directory_limit ≡ s.layout.directory_limit
 
 -- what stands at the number after the change
 pub record ChangedAt (k : Meta) (t : State) (at : ℕ) : Type 0 where
-  pub inode : inode_at k.inodes at ≡ inode_of_option (blocks_at t.layout at) (map.get t.tree.nodes at)
+  pub inode : inode_at k.inodes at ≡ inode_of_option (settled_of t.layout at) (map.get t.tree.nodes at)
   pub blocks : blocks_at t.layout at ≡ blocks_in (directory_of k at)
+  pub maps : maps_at t.layout at ≡ maps_in (directory_of k at)
   pub kind : HasDirectory (inode_at k.inodes at) (directory_of k at)
 
 -- the free blocks after the change
@@ -54,12 +58,16 @@ module _ (m k : Meta) (s t : State) (at : ℕ) (is : IsStateOf m s) (meta : Meta
   pub edited : ChangedAt k t at → FreeAfter m.free k.free t.layout → IsStateOf k t
   edited here free = record {
     inodes = λ n. elim (cases_eq n at) [
-      | inl same ↦ subst (λ (x : ℕ). inode_at k.inodes x ≡ inode_of_option (blocks_at t.layout x) (map.get t.tree.nodes x)) (sym same) here.inode
-      | inr other ↦ meta.inodes n other ∙ is.inodes n ∙ rw (state.nodes n other, state.blocks n other) refl
+      | inl same ↦ subst (λ (x : ℕ). inode_at k.inodes x ≡ inode_of_option (settled_of t.layout x) (map.get t.tree.nodes x)) (sym same) here.inode
+      | inr other ↦ meta.inodes n other ∙ is.inodes n ∙ (λ i. inode_of_option (sym (same_held s.layout t.layout n (state.blocks n other) (state.maps n other) (state.spaces n other)) i) (sym (state.nodes n other) i))
     ];
     blocks = λ n. elim (cases_eq n at) [
       | inl same ↦ subst (λ (x : ℕ). blocks_at t.layout x ≡ blocks_in (directory_of k x)) (sym same) here.blocks
       | inr other ↦ state.blocks n other ∙ is.blocks n ∙ ap blocks_in (sym (meta.directories n other))
+    ];
+    maps = λ n. elim (cases_eq n at) [
+      | inl same ↦ subst (λ (x : ℕ). maps_at t.layout x ≡ maps_in (directory_of k x)) (sym same) here.maps
+      | inr other ↦ state.maps n other ∙ is.maps n ∙ ap maps_in (sym (meta.directories n other))
     ];
     kinds = λ n. elim (cases_eq n at) [
       | inl same ↦ subst (λ (x : ℕ). HasDirectory (inode_at k.inodes x) (directory_of k x)) (sym same) here.kind
@@ -100,12 +108,12 @@ pub same_kind : (i j : Inode) (o : Option DirectoryValue) → j.kind ≡ i.kind 
 same_kind i j None e has = e ∙ has
 same_kind i j (Some d) e has = (e ∙ has.0, has.1)
 
-pub set_state : (m k : Meta) (s : State) (at : ℕ) (node : Node) → IsStateOf m s → MetaChange m k at → k.free ≡ m.free → inode_at k.inodes at ≡ Some (inode_of_node (blocks_at s.layout at) node)
-    → blocks_at s.layout at ≡ blocks_in (directory_of k at) → HasDirectory (inode_at k.inodes at) (directory_of k at) → IsStateOf k (set_node s at node)
-set_state m k s at node is meta free inode blocks kind =
+pub set_state : (m k : Meta) (s : State) (at : ℕ) (node : Node) → IsStateOf m s → MetaChange m k at → k.free ≡ m.free → inode_at k.inodes at ≡ Some (inode_of_node (settled_of s.layout at) node)
+    → blocks_at s.layout at ≡ blocks_in (directory_of k at) → maps_at s.layout at ≡ maps_in (directory_of k at) → HasDirectory (inode_at k.inodes at) (directory_of k at) → IsStateOf k (set_node s at node)
+set_state m k s at node is meta free inode blocks maps kind =
     edited m k s (set_node s at node) at is meta
-    (record { nodes = λ n ne. at_other s.tree.nodes at node n ne; blocks = λ n ne. refl; units = refl; log_blocks = refl; limit = refl })
-    (record { inode = inode ∙ ap (inode_of_option (blocks_at s.layout at)) (sym (at_key s.tree.nodes at node)); blocks = blocks; kind = kind })
+    (record { nodes = λ n ne. at_other s.tree.nodes at node n ne; blocks = λ n ne. refl; maps = λ n ne. refl; spaces = λ n ne. refl; units = refl; log_blocks = refl; limit = refl })
+    (record { inode = inode ∙ ap (inode_of_option (settled_of s.layout at)) (sym (at_key s.tree.nodes at node)); blocks = blocks; maps = maps; kind = kind })
     (free_kept m k s s.layout is free (λ b. refl) (λ b. refl))
 
 -- a table with one inode set
@@ -127,10 +135,10 @@ module _ (m k : Meta) (at : ℕ) (i : Inode) (inodes : k.inodes ≡ with_inode m
 -- ---- what has been touched
 
 pub touched_inode : (t : Touched) (n : ℕ) → record t { inodes = t.inodes ++ n ∷ [] } ≡ joined t (inode_touched n)
-touched_inode t n = rw (append-nil t.directories, append-nil t.units) refl
+touched_inode t n = rw (append-nil t.blocks, append-nil t.maps, append-nil t.units) refl
 
-pub touched_entries : (t : Touched) (n : ℕ) → record t { directories = t.directories ++ n ∷ [] } ≡ joined t (entries_touched n)
-touched_entries t n = rw (append-nil t.inodes, append-nil t.units) refl
+pub touched_entries : (t : Touched) (n i : ℕ) → record t { blocks = t.blocks ++ record { ino = n; index = i } ∷ [] } ≡ joined t (entries_touched n i)
+touched_entries t n i = rw (append-nil t.inodes, append-nil t.maps, append-nil t.units) refl
 
 pub next_gone : (laws : EditLaws) (base s new : State) (m k : Meta) (t u v : Touched) → HasGone base s m t → IsStateOf k new → IsLaidOut new → IsTouched s new u → v ≡ joined t u → HasGone base new k v
 next_gone laws base s new m k t u v gone is laid_out touched same = record {
@@ -148,6 +156,7 @@ pub unchanged_state : (m k : Meta) (s : State) → IsUnchanged m k → IsStateOf
 unchanged_state m k s same is = record {
   inodes = λ n. ap (λ (t : Table). inode_at t n) same.inodes ∙ is.inodes n;
   blocks = λ n. is.blocks n ∙ ap blocks_in (sym (same.directories n));
+  maps = λ n. is.maps n ∙ ap maps_in (sym (same.directories n));
   kinds = λ n. subst (λ (i : Option Inode). HasDirectory i (directory_of k n)) (sym (ap (λ (t : Table). inode_at t n) same.inodes)) (subst (HasDirectory (inode_at m.inodes n)) (sym (same.directories n)) (is.kinds n));
   free = λ b. ap (λ (f : FreeMapView). is_free_block f b) same.free ∙ is.free b;
   pending = λ b. ap (λ (f : FreeMapView). place_of f b) same.free ∙ is.pending b;

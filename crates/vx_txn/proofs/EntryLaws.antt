@@ -1,9 +1,9 @@
 -- What a directory's names mean, and its blocks after a change.
-use Rattle.std.proofs.Common.{◌≡◌, ℕ, zero, suc, ◌+◌, ◌*◌, ◌<◌, ◌≤◌, Bool, true, false, not, cond, nat_lt, List, [], ◌∷◌, ◌++◌, length, map, Option, Some, None, refl, sym, ◌∙◌, ap, arith, set, get_or, inl, inr}
+use Rattle.std.proofs.Common.{◌≡◌, ◌≢◌, ℕ, zero, suc, ◌+◌, ◌*◌, ◌<◌, ◌≤◌, Bool, true, false, not, cond, nat_lt, List, [], ◌∷◌, ◌++◌, length, map, Option, Some, None, refl, sym, ◌∙◌, ap, arith, set, get_or, inl, inr, length-append}
 use Rattle.std.specs.Prelude.{is_some, Result, Ok, Err, IfOk, OnOk, OnErr}
 use Rattle.vx_dir.specs.declared.refusal.NoEnt.{NoEnt}
-use Rattle.std.specs.Option.{option_map}
-use Rattle.std.specs.List.{filter, count_by, position_or_len, remove, slice_get, sum_by}
+use Rattle.std.specs.Option.{option_map, option_or, unwrap_or}
+use Rattle.std.specs.List.{filter, flat_map, count_by, position_or_len, remove, slice_get, sum_by}
 use Rattle.std.specs.Ordering.{nat_cmp, eq_by_cmp}
 use Rattle.std.specs.Cmp.{eq_by_cmp_equiv}
 use Rattle.std.specs.Cmp.Lexicographic.{slice_cmp, nat_list_cmp_total, texts_ties}
@@ -11,7 +11,7 @@ use Rattle.std.specs.FinMap as map
 use Rattle.std.proofs.lemmas.Bool.{cases_Bool, cases_lt, ltb-true, lt-ltb, le-ltb}
 use Rattle.std.proofs.lemmas.Bool.Decides.{nat_tests}
 use Rattle.std.proofs.lemmas.List.Sums.{sum_by-cons, passes_at_first, get_or-le-sum_by}
-use Rattle.std.proofs.lemmas.Option.{slice_get-get_or, none-some}
+use Rattle.std.proofs.lemmas.Option.{slice_get-get_or, slice_get_past, none-some, same_Some}
 use Rattle.std.proofs.lemmas.List.{get_or_past}
 use Rattle.vx_base.specs.Paths.{FileName}
 use Rattle.vx_base.specs.declared.inode.DirEntry.{DirEntry}
@@ -20,7 +20,11 @@ use Rattle.vx_dir.specs.Directories.{Directory, is_named, place_of, holds, block
 use Rattle.vx_dir.specs.declared.refusal.DirRefusal.{DirRefusal}
 use Rattle.vx_dir.specs.declared.refusal.DirRefusal.TheVariants as no
 use Rattle.vx_model.specs.Reads.{entries_from, name_to_inode}
-use Rattle.vx_txn.specs.Directories.{others}
+use Rattle.vx_extents.specs.Extents.{Mapped}
+use Rattle.vx_model.specs.Layout.{DirectoryBlock}
+use Rattle.vx_model.specs.Layout as layout
+use Rattle.vx_model.specs.Touching.{IsOnlyIn}
+use Rattle.vx_txn.specs.Directories.{others, placed}
 
 nobody : DirEntry
 nobody = record { ino = 0; name = [] }
@@ -30,7 +34,7 @@ nobody = record { ino = 0; name = [] }
 same_test : (name : FileName) (e : DirEntry) → eq_by_cmp (slice_cmp nat_cmp) name e.name ≡ is_named name e
 same_test name e = (eq_by_cmp_equiv nat_list_cmp_total).symm name e.name ∙ sym (texts_ties e.name name)
 
-found_by : (b : Bool) (name : FileName) (e : DirEntry) (es : Entries) → is_named name e ≡ b → inode_in name (e ∷ es) ≡ cond b (Some e.ino) (inode_in name es)
+pub found_by : (b : Bool) (name : FileName) (e : DirEntry) (es : Entries) → is_named name e ≡ b → inode_in name (e ∷ es) ≡ cond b (Some e.ino) (inode_in name es)
 found_by true name e es is = rw is refl
 found_by false name e es is =
     let q : place_of name (e ∷ es) ≡ suc (place_of name es) = rw is (omega arith) in
@@ -133,7 +137,7 @@ module _ (name : FileName) where
   ]
 
   -- a name without a meaning is not there
-  inode_here : (es : Entries) → holds name es ≡ true → is_some (inode_in name es) ≡ true
+  pub inode_here : (es : Entries) → holds name es ≡ true → is_some (inode_in name es) ≡ true
   inode_here es hit =
       let inside : place_of name es < length es = grind (arith, nat_tests) in
       ap (λ (o : Option DirEntry). is_some (option_map (λ (e : DirEntry). e.ino) o)) (slice_get-get_or es (place_of name es) nobody inside)
@@ -155,6 +159,102 @@ module _ (name : FileName) where
         let none : inode_of d name ≡ None = ap (inode_in name) past in
         absurd (none-some ino (sym none ∙ is))
   ]
+
+-- ---- the entries of several blocks
+
+module _ (name : FileName) where
+  append_by : (t : Bool) (x : ℕ) (a b : Option ℕ) → cond t (Some x) (option_or a b) ≡ option_or (cond t (Some x) a) b
+  append_by true x a b = refl
+  append_by false x a b = refl
+
+  -- what a name means in two lists of entries
+  pub in_append : (xs ys : Entries) → inode_in name (xs ++ ys) ≡ option_or (inode_in name xs) (inode_in name ys)
+  in_append [] ys = refl
+  in_append (e ∷ xs) ys =
+      found_by (is_named name e) name e (xs ++ ys) refl ∙ ap (cond (is_named name e) (Some e.ino)) (in_append xs ys)
+      ∙ append_by (is_named name e) e.ino (inode_in name xs) (inode_in name ys)
+      ∙ sym (ap (λ (o : Option ℕ). option_or o (inode_in name ys)) (found_by (is_named name e) name e xs refl))
+
+  not_in : (es : Entries) → holds name es ≡ false → inode_in name es ≡ None
+  not_in es miss = ap (option_map (λ (e : DirEntry). e.ino)) (slice_get_past es (place_of name es) (grind (arith, nat_tests)))
+
+  first_is : (o p : Option ℕ) → is_some o ≡ true → option_or o p ≡ o
+  first_is None p some = absurd (cc)
+  first_is (Some x) p some = refl
+
+  -- a name means what it does in the first block that has it
+  pub meaning_in : (bs : List Entries) → inode_in name (flat_map (λ (b : Entries). b) bs) ≡ inode_in name (get_or bs (block_of name bs) [])
+  meaning_in [] = refl
+  meaning_in (b ∷ bs) = elim (cases_Bool (holds name b)) [
+    | inl hit ↦
+        let q : block_of name (b ∷ bs) ≡ 0 = rw hit refl in
+        in_append b (flat_map (λ (x : Entries). x) bs) ∙ first_is (inode_in name b) _ (inode_here name b hit) ∙ sym (ap (λ (i : ℕ). inode_in name (get_or (b ∷ bs) i [])) q)
+    | inr miss ↦
+        let q : block_of name (b ∷ bs) ≡ suc (block_of name bs) = rw miss (omega arith) in
+        in_append b (flat_map (λ (x : Entries). x) bs) ∙ ap (λ (o : Option ℕ). option_or o (inode_in name (flat_map (λ (x : Entries). x) bs))) (not_in b miss) ∙ meaning_in bs
+        ∙ sym (ap (λ (i : ℕ). inode_in name (get_or (b ∷ bs) i [])) q)
+  ]
+
+  -- how many entries of all blocks have the name
+  count_append : (xs ys : Entries) → count_by (is_named name) (xs ++ ys) ≡ count_by (is_named name) xs + count_by (is_named name) ys
+  count_append [] ys = let e : count_by (is_named name) [] ≡ 0 = refl in omega arith
+  count_append (e ∷ xs) ys =
+      let a = count_cons (is_named name) (is_named name e) e (xs ++ ys) refl in
+      let b = count_cons (is_named name) (is_named name e) e xs refl in
+      let c = count_append xs ys in omega arith
+
+  pub count_all : (bs : List Entries) → count_by (is_named name) (flat_map (λ (b : Entries). b) bs) ≡ name_count name bs
+  count_all [] = refl
+  count_all (b ∷ bs) = let a = count_append b (flat_map (λ (x : Entries). x) bs) in let c = count_all bs in let d = count_blocks name b bs in omega arith
+
+-- how many entries there are
+pub length_all : (bs : List Entries) → length (flat_map (λ (b : Entries). b) bs) ≡ sum_by (λ (b : Entries). length b) bs
+length_all [] = refl
+length_all (b ∷ bs) = length-append b (flat_map (λ (x : Entries). x) bs) ∙ ap (λ (n : ℕ). length b + n) (length_all bs) ∙ sym (sum_by-cons (λ (x : Entries). length x) b bs)
+
+-- ---- which blocks have a name
+
+module _ (name : FileName) where
+  none_at : (bs : List Entries) (j : ℕ) (es : Entries) → name_count name bs ≡ 0 → slice_get bs j ≡ Some es → count_by (is_named name) es ≡ 0
+  none_at [] j es none got = absurd (none-some es got)
+  none_at (b ∷ bs) zero es none got = let e = count_blocks name b bs in let same : b ≡ es = same_Some b es got in ap (count_by (is_named name)) (sym same) ∙ omega arith
+  none_at (b ∷ bs) (suc j) es none got = let e = count_blocks name b bs in none_at bs j es (omega arith) got
+
+  one_at : (bs : List Entries) (j : ℕ) (es : Entries) → name_count name bs ≤ 1 → j ≢ block_of name bs → slice_get bs j ≡ Some es → count_by (is_named name) es ≡ 0
+  one_at [] j es few ne got = absurd (none-some es got)
+  one_at (b ∷ bs) zero es few ne got = elim (cases_Bool (holds name b)) [
+    | inl hit ↦ let q : block_of name (b ∷ bs) ≡ 0 = rw hit refl in absurd (ne (sym q))
+    | inr miss ↦ let same : b ≡ es = same_Some b es got in ap (count_by (is_named name)) (sym same) ∙ not_held name b miss
+  ]
+  one_at (b ∷ bs) (suc j) es few ne got = elim (cases_Bool (holds name b)) [
+    | inl hit ↦ let e = count_blocks name b bs in let one = held_count name b hit in none_at bs j es (omega arith) got
+    | inr miss ↦
+        let e = count_blocks name b bs in
+        let q : block_of name (b ∷ bs) ≡ suc (block_of name bs) = rw miss (omega arith) in
+        one_at bs j es (omega arith) (λ same. ne (ap (λ (k : ℕ). suc k) same ∙ sym q)) got
+  ]
+
+  pub placed_get : (pages : List Mapped) (bs : List Entries) (j : ℕ) (d : DirectoryBlock) → slice_get (placed pages bs) j ≡ Some d → slice_get bs j ≡ Some d.entries
+  placed_get [] bs j d got = absurd (none-some d got)
+  placed_get (m ∷ pages) [] j d got = absurd (none-some d got)
+  placed_get (m ∷ pages) (es ∷ bs) zero d got = ap (λ (x : DirectoryBlock). Some x.entries) (same_Some _ d got)
+  placed_get (m ∷ pages) (es ∷ bs) (suc j) d got = placed_get pages bs j d got
+
+  as_it_was : (d : DirectoryBlock) → count_by (is_named name) d.entries ≡ 0 → layout.without_name name d ≡ d
+  as_it_was d none = ap (λ (es : Entries). record d { entries = es }) (rest_all (is_named name) d.entries none)
+
+  only_by : (pages : List Mapped) (d : Directory) (i : ℕ) (o : Option ℕ) → IsKept d → inode_of d name ≡ o → (is_some o ≡ true → i ≡ block_of name d.blocks) → IsOnlyIn name i (placed pages d.blocks)
+  only_by pages d i None kept means at = λ j x ne got.
+      as_it_was x (none_at d.blocks j x.entries (none_named name d.blocks (not_there name d means)) (placed_get pages d.blocks j x got))
+  only_by pages d i (Some ino) kept means at = λ j x ne got.
+      as_it_was x (one_at d.blocks j x.entries (kept.distinct name) (λ same. ne (same ∙ sym (at refl))) (placed_get pages d.blocks j x got))
+
+  place_by : (o : Option ℕ) (b : ℕ) → is_some o ≡ true → unwrap_or (option_map (λ (ino : ℕ). b) o) 0 ≡ b
+  place_by None b some = absurd (cc)
+  place_by (Some x) b some = refl
+
+  pub only_there : (pages : List Mapped) (d : Directory) (i : ℕ) → IsKept d → i ≡ unwrap_or (option_map (λ (ino : ℕ). block_of name d.blocks) (inode_of d name)) 0 → IsOnlyIn name i (placed pages d.blocks)
+  only_there pages d i kept is = only_by pages d i (inode_of d name) kept refl (λ some. is ∙ place_by (inode_of d name) (block_of name d.blocks) some)
 
 -- a name less, whether it was there or not
 pub removed_by : (r : Result ℕ NoEnt) (d new : Directory) (name : FileName) → IsKept d → IfOk r (λ ino. inode_of d name ≡ Some ino) → OnErr r (inode_of d name ≡ None)

@@ -1,15 +1,16 @@
 -- What a batch gains with a sector more.
 use Rattle.std.proofs.Common.{◌≡◌, ◌⊎◌, ℕ, zero, suc, ◌+◌, ◌<◌, ◌≤◌, Bool, true, false, cond, List, [], ◌∷◌, length, take, get_or, refl, sym, ap, subst, arith, inl, inr}
-use Rattle.std.specs.Prelude.{◌==◌, ◌||◌, nat_lt}
+use Rattle.std.specs.Prelude.{◌==◌, ◌&&◌, ◌||◌, nat_lt}
 use Rattle.std.specs.List.{AllByRecursion}
-use Rattle.std.proofs.lemmas.Bool.{eq-eqb, eqb-true}
+use Rattle.std.proofs.lemmas.Bool.{eq-eqb, eqb-true, and_parts}
+use Rattle.vx_model.specs.Touching.{BlockPlace, has_place}
 use Rattle.std.proofs.lemmas.List.{take_all}
 use Rattle.vx_layout.specs.LogForms.{AfterImage}
 use Rattle.vx_log.specs.Batches.{batch_set}
 use Rattle.vx_model.specs.Images.{among, sectors_in}
 use Rattle.vx_model.specs.State.{State}
 use Rattle.vx_txn.specs.Metas.{Stands}
-use Rattle.vx_txn.specs.Staged.{IsRight, Adds, Each}
+use Rattle.vx_txn.specs.Staged.{IsRight, Adds, Each, EachPlace}
 use Rattle.vx_txn.specs.declared.meta.Meta.{Meta}
 
 -- ---- tests
@@ -117,3 +118,28 @@ each_more P Q xs i lt before keeps here = λ n h. elim (among_one_more xs i n lt
 
 pub each_all : (P : ℕ → Type 0) (xs : List ℕ) (i : ℕ) → length xs ≤ i → Each P (take i xs) → Each P xs
 each_all P xs i le each = subst (λ (ys : List ℕ). Each P ys) (take_all i xs le) each
+
+-- ---- one place after another
+
+place_one_more : (ps : List BlockPlace) (i n j : ℕ) (d : BlockPlace) → i < length ps → has_place (take (i + 1) ps) n j ≡ true → (record { ino = n; index = j } ≡ get_or ps i d) ⊎ (has_place (take i ps) n j ≡ true)
+place_one_more [] i n j d lt h = absurd (omega (arith, lt))
+place_one_more (p ∷ ps) zero n j d lt h = elim (either (n == p.ino && j == p.index) false h) [
+  | inl e ↦ inl (let parts = and_parts _ _ e in (λ k. record { ino = eqb-true n p.ino parts.0 k; index = eqb-true j p.index parts.1 k }))
+  | inr other ↦ absurd cc
+]
+place_one_more (p ∷ ps) (suc i) n j d lt h = elim (either (n == p.ino && j == p.index) (has_place (take (i + 1) ps) n j) (subst (λ (k : ℕ). has_place (take k (p ∷ ps)) n j ≡ true) (next i) h)) [
+  | inl e ↦ inr (or_left (n == p.ino && j == p.index) (has_place (take i ps) n j) e)
+  | inr later ↦ elim (place_one_more ps i n j d (omega (arith, lt)) later) [
+    | inl last ↦ inl last
+    | inr before ↦ inr (or_right (n == p.ino && j == p.index) (has_place (take i ps) n j) before)
+  ]
+]
+
+pub each_place_more : (P Q : BlockPlace → Type 0) (ps : List BlockPlace) (i : ℕ) (d : BlockPlace) → i < length ps → EachPlace P (take i ps) → ((p : BlockPlace) → P p → Q p) → Q (get_or ps i d) → EachPlace Q (take (i + 1) ps)
+each_place_more P Q ps i d lt before keeps here = λ n j h. elim (place_one_more ps i n j d lt h) [
+  | inl last ↦ subst Q (sym last) here
+  | inr earlier ↦ keeps (record { ino = n; index = j }) (before n j earlier)
+]
+
+pub each_place_all : (P : BlockPlace → Type 0) (ps : List BlockPlace) (i : ℕ) → length ps ≤ i → EachPlace P (take i ps) → EachPlace P ps
+each_place_all P ps i le each = subst (λ (qs : List BlockPlace). EachPlace P qs) (take_all i ps le) each

@@ -12,16 +12,19 @@ pub mod MakingLaws
 pub mod MetaLaws
 pub mod Moves
 pub mod NameEdits
+pub mod NextPage
+pub mod Growing
+pub mod Paged
 pub mod NodeEdits
 pub mod PathEnds
 mod PendingBlocks
-pub mod Placing
 pub mod ReadLaws
 pub mod SlotLaws
 pub mod StateLaws
+pub mod Settled
 pub mod Unnaming
 pub mod LinkLaws
 pub mod Renaming
 pub mod Gains
 pub mod UnitSectors
-pub mod DirectorySectors
+pub mod BlockSectors

@@ -22,8 +22,6 @@ use Rattle.vx_base.specs.declared.refusal.Refusal.TheVariants as no
 use Rattle.vx_base.specs.declared.reply.Reply.TheVariants as say
 use Rattle.vx_dir.specs.Sizes.{Entries}
 use Rattle.vx_dir.specs.Directories.{Directory as Names, IsKept, AreNames, all_entries, inode_in, is_named}
-use Rattle.vx_model.specs.LaidOut.{entries_of}
-use Rattle.vx_model.specs.Layout.{DirectoryBlock, blocks_at}
 use Rattle.vx_model.specs.Naming.{list_at}
 use Rattle.vx_model.specs.Outcome.{Maybe, ◌>>=◌, need}
 use Rattle.vx_model.specs.Reads.{entries_from, name_to_inode}
@@ -31,13 +29,12 @@ use Rattle.vx_model.specs.State.{State}
 use Rattle.vx_model.specs.Touching.{untouched}
 use Rattle.vx_model.specs.Tree as tree
 use Rattle.vx_txn.specs.Calls.{IsSettled}
-use Rattle.vx_txn.specs.Directories.{DirectoryValue, blocks_in}
-use Rattle.vx_txn.specs.Edits.{empty_directory, one_block}
+use Rattle.vx_txn.specs.Directories.{DirectoryValue}
 use Rattle.vx_txn.specs.Metas.{directory_of, Stands}
 use Rattle.vx_txn.specs.declared.meta.Meta.{Meta}
-use Rattle.vx_txn.proofs.CallLaws.{answered}
+use Rattle.vx_txn.proofs.CallLaws.{answered, distinct_names}
 use Rattle.vx_txn.proofs.EntryLaws.{find_in}
-use Rattle.vx_txn.proofs.StateLaws.{shape, directory_here, directory_node, blocks_here}
+use Rattle.vx_txn.proofs.StateLaws.{directory_here, directory_node, entries_here}
 
 abbrev by_bytes : FileName → FileName → Ordering
 by_bytes = slice_cmp nat_cmp
@@ -175,22 +172,10 @@ module _ (es : Entries) (names : List FileName) (same : IsPermutation (map (λ (
 
 -- ---- of a directory
 
-empty_names : (names : List FileName) → AreNames empty_directory.names names → map.keys (entries_from []) ≡ names
-empty_names names are = keys_are [] names are.same are.sorted (λ q. omega arith)
-
 module _ (m : Meta) (s : State) (is : Stands m s) (at : ℕ) (d : DirectoryValue) (names : List FileName) where
   pub listing_settled : (there : directory_of m at ≡ Some d) → IsKept d.names → AreNames d.names names → IsSettled s (list_at s at) m untouched (say.Listing names)
   listing_settled there kept are =
       let h = directory_here m s is at d there in
-      let keys : map.keys h.tree.entries ≡ names =
-      ap map.keys (h.entries ∙ ap (λ (x : List DirectoryBlock). entries_from (entries_of x)) (blocks_here m s is at (Some d) there))
-      ∙ elim (shape m s is at d there) [
-        | inl none ↦ ap (λ (x : DirectoryValue). map.keys (entries_from (entries_of (blocks_in (Some x))))) none ∙ empty_names names (subst (λ (x : DirectoryValue). AreNames x.names names) none are)
-        | inr one ↦
-            let k : IsKept (one_block one.0 one.1).names = subst (λ (x : DirectoryValue). IsKept x.names) one.2 kept in
-            let a : AreNames (one_block one.0 one.1).names names = subst (λ (x : DirectoryValue). AreNames x.names names) one.2 are in
-            ap (λ (x : DirectoryValue). map.keys (entries_from (entries_of (blocks_in (Some x))))) one.2 ∙ ap (λ (x : Entries). map.keys (entries_from x)) (append-nil one.1)
-            ∙ keys_are one.1 names (subst (λ (x : Entries). IsPermutation (map (λ (e : DirEntry). e.name) x) names) (append-nil one.1) a.same) a.sorted (λ q. let c = k.distinct q in omega arith)
-      ] in
+      let keys : map.keys h.tree.entries ≡ names = ap map.keys (entries_here m s is at d there) ∙ keys_are (all_entries d.names) names are.same are.sorted (distinct_names d.names kept) in
       answered m s is (list_at s at) (say.Listing (map.keys h.tree.entries)) (say.Listing names)
       (ap (λ (r : Maybe tree.Directory). r >>= (λ x. Ok (record { state = s; reply = say.Listing (map.keys x.entries) }))) (directory_node m s is at d there)) (ap say.Listing (sym keys))

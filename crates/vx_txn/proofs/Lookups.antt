@@ -17,7 +17,7 @@ use Rattle.vx_model.specs.State.{State}
 use Rattle.vx_model.specs.Legal.{IfThere}
 use Rattle.vx_model.specs.Walks.{root, as_file, as_directory, file_at, directory_at, step_to, walk}
 use Rattle.vx_model.specs.Edits.{with_nodes, with_name, add_name, add_name_in, remove_name, remove_name_in, without_name}
-use Rattle.vx_model.specs.LaidOut.{entries_of, IsHeld, IsKept, IsPlainFile, IsDirectoryNode, IsLaidOut}
+use Rattle.vx_model.specs.LaidOut.{IsHeld, HasNothing, IsNodeOf, IsPlainFile, IsDirectoryNode, IsLaidOut}
 use Rattle.std.specs.Prelude.{IsTrue, is_some, IfOk}
 use Rattle.std.specs.Option.{option_map}
 use Rattle.vx_base.specs.declared.refusal.Refusal.{Refusal}
@@ -29,21 +29,21 @@ use Rattle.vx_inode.specs.Tables.{inode_at, is_used, links_at, links_of}
 use Rattle.vx_model.specs.State.{Done}
 use Rattle.vx_model.specs.Removing.{fine}
 use Rattle.vx_model.specs.Entering.{Entry, entry_in, entry_at, entry_end, entry_along}
-use Rattle.vx_model.specs.Contents.{inode_for}
+use Rattle.vx_model.specs.Contents.{Held, inode_for, settled_of}
 use Rattle.vx_model.specs.Touching.{Touched, IsTouched, untouched}
 use Rattle.vx_txn.specs.declared.meta.Meta.{Meta}
 use Rattle.vx_txn.specs.Calls.{HasGone, IsSettled}
-use Rattle.vx_txn.specs.Directories.{DirectoryValue, IsNewIn, blocks_in}
+use Rattle.vx_txn.specs.Directories.{DirectoryValue, IsNewIn}
 use Rattle.vx_txn.specs.Metas.{Stands, IsSound, HasDirectory, directory_of}
 use Rattle.vx_base.specs.declared.inode.DirEntry.{DirEntry}
 use Rattle.std.specs.List.{count_by, sum_by}
 use Rattle.vx_model.specs.Reads.{entries_from}
-use Rattle.vx_txn.specs.Edits.{empty_directory, one_block, IsEdited, IsRefused, refusal_reply}
+use Rattle.vx_txn.specs.Edits.{IsEdited, IsRefused, refusal_reply}
 use Rattle.vx_txn.specs.declared.edits.EditRefusal.{EditRefusal}
 use Rattle.vx_txn.specs.declared.edits.EditRefusal.TheVariants as edit
 use Rattle.vx_base.specs.declared.reply.Reply.{Reply}
 use Rattle.std.specs.declared.alloc.AllocError.{AllocError}
-use Rattle.vx_txn.proofs.CallLaws.{len_entries}
+use Rattle.vx_txn.proofs.CallLaws.{counted_names}
 use Rattle.vx_txn.proofs.StateLaws as laws
 use Rattle.vx_model.specs.Paths.{PathEnd, path_end, path_end_from}
 use Rattle.vx_txn.specs.Removals.{entry_of, links_of as name_count, IsRootUsed}
@@ -82,7 +82,7 @@ apart nodes ino at f d file directory same =
 -- ---- a state that is laid out
 
 pub record IsHeldNode (l : Layout) (n : ℕ) (node : Node) : Type 0 where
-  pub kept : IsKept (blocks_at l n) node
+  pub kept : IsNodeOf l n node
   pub low : 2 ≤ n
   pub high : n < 128 * l.units
 
@@ -91,10 +91,10 @@ held_node s n node laid found =
     let held = subst (λ o. IsHeld s.layout n o) found (laid.nodes n) in
     record { kept = held.0; low = held.1; high = held.2 }
 
--- a file has no blocks
+-- a file has nothing on the device
 pub record IsHeldFile (l : Layout) (n : ℕ) (f : File) : Type 0 where
   pub plain : IsPlainFile f
-  pub no_blocks : blocks_at l n ≡ []
+  pub nothing : HasNothing l n
   pub low : 2 ≤ n
   pub high : n < 128 * l.units
   pub not_root : n ≢ root
@@ -107,7 +107,7 @@ held_file s n f laid found =
     let held = held_node s n (IsFile f) laid found in
     record {
       plain = held.kept.0;
-      no_blocks = held.kept.1;
+      nothing = held.kept.1;
       low = held.low;
       high = held.high;
       not_root = λ same. root_is_none (map.get s.tree.nodes root) f laid.has_root (ap (map.get s.tree.nodes) (sym same) ∙ found);
@@ -143,7 +143,7 @@ pub sound_of : (s : State) (m : Meta) → Stands m s → IsSound m
 sound_of s m stands = record { state = s; stands = stands }
 
 same_touched : (s : State) → IsTouched s s untouched
-same_touched s = record { same_volume = refl; inodes = λ n h. refl; directories = λ n h. refl; units = λ u j l h. refl }
+same_touched s = record { same_volume = refl; inodes = λ n h. refl; blocks = λ n i d h got. got; maps = λ n k c h got. got; units = λ u j l h. refl }
 
 pub begun : (s : State) (m : Meta) (t : Touched) → Stands m s → t ≡ untouched → HasGone s s m t
 begun s m t stands empty = record { state = stands.is; laid_out = stands.laid_out; touched = subst (IsTouched s s) (sym empty) (same_touched s) }
@@ -160,9 +160,9 @@ directory_by i None is has = absurd (let same : kind.Directory ≡ kind.File = s
 directory_by i (Some d) is has = (d, refl)
 
 module _ (m : Meta) (s : State) (stands : Stands m s) (n : ℕ) where
-  pub node_inode : (node : Node) → map.get s.tree.nodes n ≡ Some node → inode_at m.inodes n ≡ Some (inode_for (blocks_at s.layout n) node).inode
+  pub node_inode : (node : Node) → map.get s.tree.nodes n ≡ Some node → inode_at m.inodes n ≡ Some (inode_for (settled_of s.layout n) node).inode
   node_inode node found =
-      stands.is.inodes n ∙ ap (λ (o : Option Node). option_map (λ (v : InodeValue). v.inode) (option_map (inode_for (blocks_at s.layout n)) o)) found
+      stands.is.inodes n ∙ ap (λ (o : Option Node). option_map (λ (v : InodeValue). v.inode) (option_map (inode_for (settled_of s.layout n)) o)) found
 
   pub node_used : (node : Node) → map.get s.tree.nodes n ≡ Some node → IsTrue (is_used m.inodes n)
   node_used node found = ap is_some (node_inode node found)
@@ -180,7 +180,7 @@ module _ (m : Meta) (s : State) (stands : Stands m s) (n : ℕ) where
 
   pub directory_here : (d : Directory) → map.get s.tree.nodes n ≡ Some (IsDirectory d) → (v : DirectoryValue) × (directory_of m n ≡ Some v)
   directory_here d found =
-      directory_by (inode_for (blocks_at s.layout n) (IsDirectory d)).inode (directory_of m n) refl
+      directory_by (inode_for (settled_of s.layout n) (IsDirectory d)).inode (directory_of m n) refl
       (subst (λ (o : Option Inode). HasDirectory o (directory_of m n)) (node_inode (IsDirectory d) found) (stands.is.kinds n))
 
 -- ---- entries
@@ -239,32 +239,18 @@ no_file nodes ino why k refused = no_file_by (file_at nodes ino) why k refused
 
 -- ---- directories
 
-node_by : (o : Option Node) (i : Option Inode) (v : DirectoryValue) (blocks : List DirectoryBlock) → i ≡ option_map (λ (v : InodeValue). v.inode) (option_map (inode_for blocks) o) → HasDirectory i (Some v) → (d : Directory) × (o ≡ Some (IsDirectory d))
-node_by None i v blocks is has = absurd (subst (λ (j : Option Inode). HasDirectory j (Some v)) is has)
-node_by (Some (IsFile f)) i v blocks is has =
+node_by : (o : Option Node) (i : Option Inode) (v : DirectoryValue) (h : Held) → i ≡ option_map (λ (v : InodeValue). v.inode) (option_map (inode_for h) o) → HasDirectory i (Some v) → (d : Directory) × (o ≡ Some (IsDirectory d))
+node_by None i v h is has = absurd (subst (λ (j : Option Inode). HasDirectory j (Some v)) is has)
+node_by (Some (IsFile f)) i v h is has =
     let both = subst (λ (j : Option Inode). HasDirectory j (Some v)) is has in
     absurd (let same : kind.File ≡ kind.Directory = both.0 in cc)
-node_by (Some (IsDirectory d)) i v blocks is has = (d, refl)
-
-counted_by : (v : DirectoryValue) (blocks : List DirectoryBlock) → (v ≡ empty_directory) ⊎ ((b : ℕ) × (es : List DirEntry) × (v ≡ one_block b es)) → blocks ≡ blocks_in (Some v) → IsSoundDirectory v.names
-    → entry_count v.names ≡ map.len (entries_from (entries_of blocks))
-counted_by v blocks (inl empty) is kept =
-    ap (λ (w : DirectoryValue). entry_count w.names) empty
-    ∙ sym (ap (λ (bs : List DirectoryBlock). map.len (entries_from (entries_of bs))) (is ∙ ap (λ (w : DirectoryValue). blocks_in (Some w)) empty) ∙ len_entries [] (λ name. omega arith))
-counted_by v blocks (inr (b, es, one)) is kept =
-    let one_count : (name : FileName) → sum_by (λ (x : List DirEntry). count_by (is_named name) x) (es ∷ []) ≤ 1 = λ name.
-    subst (λ (w : DirectoryValue). sum_by (λ (x : List DirEntry). count_by (is_named name) x) w.names.blocks ≤ 1) one (kept.distinct name) in
-    let distinct : (name : FileName) → count_by (is_named name) (es ++ []) ≤ 1 = λ name.
-    let few = one_count name in subst (λ (xs : List DirEntry). count_by (is_named name) xs ≤ 1) (sym (append-nil es)) (omega arith) in
-    let total : entry_count (one_block b es).names ≡ length es = omega arith in
-    ap (λ (w : DirectoryValue). entry_count w.names) one ∙ total
-    ∙ sym (ap (λ (bs : List DirectoryBlock). map.len (entries_from (entries_of bs))) (is ∙ ap (λ (w : DirectoryValue). blocks_in (Some w)) one) ∙ len_entries (es ++ []) distinct ∙ ap length (append-nil es))
+node_by (Some (IsDirectory d)) i v h is has = (d, refl)
 
 module _ (m : Meta) (s : State) (stands : Stands m s) (n : ℕ) (v : DirectoryValue) (here : directory_of m n ≡ Some v) where
   -- what a directory in memory is
   pub directory_found : (d : Directory) × (map.get s.tree.nodes n ≡ Some (IsDirectory d))
   directory_found =
-      node_by (map.get s.tree.nodes n) (inode_at m.inodes n) v (blocks_at s.layout n) (stands.is.inodes n)
+      node_by (map.get s.tree.nodes n) (inode_at m.inodes n) v (settled_of s.layout n) (stands.is.inodes n)
       (subst (λ (o : Option DirectoryValue). HasDirectory (inode_at m.inodes n) o) here (stands.is.kinds n))
 
   tree_is : (d : Directory) → map.get s.tree.nodes n ≡ Some (IsDirectory d) → (laws.directory_here m s stands n v here).tree ≡ d
@@ -277,8 +263,7 @@ module _ (m : Meta) (s : State) (stands : Stands m s) (n : ℕ) (v : DirectoryVa
   -- how many names there are
   pub counted : (d : Directory) → map.get s.tree.nodes n ≡ Some (IsDirectory d) → IsSoundDirectory v.names → entry_count v.names ≡ map.len d.entries
   counted d found kept =
-      counted_by v (blocks_at s.layout n) (laws.shape m s stands n v here) (laws.blocks_here m s stands n (Some v) here) kept
-      ∙ ap map.len (sym (laws.directory_here m s stands n v here).entries ∙ ap (λ (t : Directory). t.entries) (tree_is d found))
+      sym (counted_names v.names kept) ∙ ap map.len (sym (laws.entries_here m s stands n v here) ∙ ap (λ (t : Directory). t.entries) (tree_is d found))
 
 -- ---- the root
 
@@ -410,7 +395,7 @@ new_of m s stands n name w =
 pub used_node : (m : Meta) (s : State) → Stands m s → (n : ℕ) → IsTrue (is_used m.inodes n) → (node : Node) × (map.get s.tree.nodes n ≡ Some node)
 used_node m s stands n used = node_there (map.get s.tree.nodes n) (sym (ap is_some (stands.is.inodes n)) ∙ used)
   where
-    node_there : (o : Option Node) → is_some (option_map (λ (v : InodeValue). v.inode) (option_map (inode_for (blocks_at s.layout n)) o)) ≡ true → (node : Node) × (o ≡ Some node)
+    node_there : (o : Option Node) → is_some (option_map (λ (v : InodeValue). v.inode) (option_map (inode_for (settled_of s.layout n)) o)) ≡ true → (node : Node) × (o ≡ Some node)
     node_there None is = absurd cc
     node_there (Some node) is = (node, refl)
 

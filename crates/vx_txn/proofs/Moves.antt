@@ -1,10 +1,11 @@
 -- An entry may be added before or after the inode goes that it replaces.
-use Rattle.std.proofs.Common.{◌≡◌, ◌≢◌, ℕ, ◌+◌, ◌≤◌, Bool, true, false, cond, List, [], ◌∷◌, ◌++◌, ◌*◌, ◌-◌, length, map as list_map, leb, Option, Some, None, Ok, Err, inl, inr, refl, sym, ◌∙◌, ap, subst, arith}
-use Rattle.std.specs.Prelude.{◌==◌}
-use Rattle.std.proofs.lemmas.Bool.{ne_eqb, eq-eqb, eqb-true, cases_eq, false_from_ne_true, leb-true}
-use Rattle.std.proofs.lemmas.Option.{none-some}
-use Rattle.std.proofs.lemmas.List.{length-map}
-use Rattle.std.specs.Cmp.Lexicographic.{slice_cmp}
+use Rattle.std.proofs.Common.{◌≡◌, ◌≢◌, ℕ, ◌+◌, ◌≤◌, Bool, true, false, cond, List, [], ◌∷◌, ◌++◌, ◌-◌, length, map as list_map, leb, Option, Some, None, Ok, Err, inl, inr, refl, sym, ◌∙◌, ap, subst, arith, length-append}
+use Rattle.std.specs.Prelude.{◌==◌, is_some}
+use Rattle.std.specs.List.{AllByRecursion, filter}
+use Rattle.std.specs.Option.{option_or}
+use Rattle.std.proofs.lemmas.Bool.{cases_Bool, ne_eqb, eq-eqb, eqb-true, cases_eq, false_from_ne_true, both_ways, le-leb}
+use Rattle.std.proofs.lemmas.List.Sums.{sum_by-cons}
+use Rattle.std.proofs.lemmas.Slice.Eq.{bytes_eq-Decides}
 use Rattle.std.specs.Ordering.{nat_cmp, is_eq}
 use Rattle.std.specs.Cmp.{nat_cmp_total, tied_itself}
 use Rattle.std.specs.FinMap as map
@@ -12,16 +13,21 @@ use Rattle.vx_base.specs.declared.refusal.Refusal.TheVariants as no
 use Rattle.vx_base.specs.declared.inode.DirEntry.{DirEntry}
 use Rattle.vx_base.specs.Paths.{FileName}
 use Rattle.vx_base.proofs.Maps.{apart, at_key, at_other, put_twice}
-use Rattle.vx_model.specs.Outcome.{Maybe, unless, need, ◌>>=◌}
+use Rattle.vx_dir.specs.Directories.{inode_in, is_named}
+use Rattle.vx_codec.proofs.Entries.{length-entry}
+use Rattle.vx_layout.specs.Dirs.{IsDir, entries_bytes, entry_bytes}
+use Rattle.vx_model.specs.Outcome.{Maybe, need, ◌>>=◌}
 use Rattle.vx_model.specs.Tree.{Node, Nodes, Entries, File, Directory, IsFile, IsDirectory}
-use Rattle.vx_model.specs.Layout.{Layout, DirectoryBlock, blocks_at, without_name as block_without, with_blocks, with_entry, filled_or_new, add_entry, new_block, pended, freed}
+use Rattle.vx_model.specs.Layout.{Layout, DirectoryBlock, blocks_at, without_name as block_without, with_blocks, with_entry, filled_or_new, add_entry, behind, entry_size, freed, given_up, has_room, other_name, pages_from, pended, used_by}
 use Rattle.vx_model.specs.State.{State}
 use Rattle.vx_model.specs.Walks.{as_directory, directory_at}
 use Rattle.vx_model.specs.Removing.{unlinked}
 use Rattle.vx_model.specs.Edits.{with_nodes, with_name, add_name, add_name_in, remove_name, remove_name_in, set_node, drop_node}
-use Rattle.vx_model.specs.Reads.{entries_from}
 use Rattle.vx_model.specs.LaidOut.{entries_of, IsLaidOut}
-use Rattle.vx_txn.proofs.Lookups.{held_node}
+use Rattle.vx_space.specs.Space.{no_space, page_blocks}
+use Rattle.vx_txn.specs.Directories.{others}
+use Rattle.vx_txn.proofs.EntryLaws.{found_by, get_entries, in_append}
+use Rattle.vx_txn.proofs.Lookups.{held_node, node_directory, removed_here, removed_other, removed_blocks}
 
 -- ---- inode numbers
 
@@ -55,28 +61,30 @@ either_first true false x y z one = refl
 either_first false true x y z one = refl
 either_first false false x y z one = refl
 
+-- a block has room
+pub record IsFilled (o : Option (List DirectoryBlock)) : Type 0 where
+  pub blocks : List DirectoryBlock
+  pub is : o ≡ Some blocks
+
 module _ (l : Layout) (place t at : ℕ) (ne : at ≢ t) where
   put_freed : (blocks : List DirectoryBlock) → with_blocks (freed l place t) at blocks ≡ freed (with_blocks l at blocks) place t
   put_freed blocks =
       let directories : (n : ℕ) → cond (n == at) blocks (cond (n == t) [] (l.directories n)) ≡ cond (n == t) [] (cond (n == at) blocks (l.directories n)) = λ n.
       either_first (n == at) (n == t) blocks [] (l.directories n) (λ one two. ne (sym (eqb-true n at one) ∙ eqb-true n t two)) in
-      let pending : (b : ℕ) → pended place (l.directories t) l.pending b ≡ pended place (cond (t == at) blocks (l.directories t)) l.pending b = λ b.
-      ap (λ test. pended place (cond test blocks (l.directories t)) l.pending b) (sym (ne_eqb t at (λ e. ne (sym e)))) in
-      λ i. record { log_blocks = l.log_blocks; units = l.units; device_sectors = l.device_sectors; directory_limit = l.directory_limit; directories = λ n. directories n i; pending = λ b. pending b i }
+      let given : given_up l t ≡ given_up (with_blocks l at blocks) t = ap (λ test. page_blocks (pages_from 0 (cond test blocks (l.directories t)) ++ (l.files t).settled) ++ l.maps t) (sym (ne_eqb t at (λ e. ne (sym e)))) in
+      λ i. record {
+        log_blocks = l.log_blocks;
+        units = l.units;
+        device_sectors = l.device_sectors;
+        directory_limit = l.directory_limit;
+        directories = λ n. directories n i;
+        files = λ n. cond (n == t) no_space (l.files n);
+        maps = λ n. cond (n == t) [] (l.maps n);
+        pending = pended place (given i) l.pending;
+      }
 
   freed_blocks : blocks_at (freed l place t) at ≡ blocks_at l at
   freed_blocks = ap (λ test. cond test [] (l.directories at)) (ne_eqb at t ne)
-
-  -- where there may be no further block
-  filled_freed : (first : ℕ) (blocks : List DirectoryBlock) (e : DirEntry) (filled : Option (List DirectoryBlock)) → leb (length blocks + 1) l.directory_limit ≡ false
-      → filled_or_new (freed l place t) first at blocks e filled ≡ (filled_or_new l first at blocks e filled >>= (λ k. Ok (freed k place t)))
-  filled_freed first blocks e (Some filled) full = ap Ok (put_freed filled)
-  filled_freed first blocks e None full =
-      ap (λ test. unless test (no.TooBig (1024 * (length blocks + 1))) (more first (freed l place t))) full
-      ∙ sym (ap (λ test. unless test (no.TooBig (1024 * (length blocks + 1))) (more first l) >>= (λ k. Ok (freed k place t))) full)
-    where
-      more : ℕ → Layout → Maybe Layout
-      more first k = need (new_block k first blocks) (no.NoSpace 1 0) >>= (λ b. Ok (with_blocks k at (blocks ++ record { block = b; entries = e ∷ [] } ∷ [])))
 
 -- ---- an entry more
 
@@ -98,21 +106,22 @@ module _ (s : State) (at : ℕ) (name : FileName) (ino : ℕ) where
     dropped_directory : directory_at (map.remove s.tree.nodes t) at ≡ directory_at s.tree.nodes at
     dropped_directory = ap (λ (o : Option Node). need o no.NoEnt >>= as_directory) (dropped_other s.tree.nodes t at ne)
 
-    dropped_entry : leb (length (blocks_at s.layout at) + 1) s.layout.directory_limit ≡ false → add_entry (freed s.layout place t) first_extent at entry ≡ (add_entry s.layout first_extent at entry >>= (λ k. Ok (freed k place t)))
-    dropped_entry full =
-        ap (λ (blocks : List DirectoryBlock). filled_or_new (freed s.layout place t) first_extent at blocks entry (with_entry blocks entry)) (freed_blocks s.layout place t at ne)
-        ∙ filled_freed s.layout place t at ne first_extent (blocks_at s.layout at) entry (with_entry (blocks_at s.layout at) entry) full
+    dropped_entry : IsFilled (with_entry (blocks_at s.layout at) entry) → add_entry (freed s.layout place t) first_extent at entry ≡ (add_entry s.layout first_extent at entry >>= (λ k. Ok (freed k place t)))
+    dropped_entry room =
+        ap (λ (blocks : List DirectoryBlock). filled_or_new (freed s.layout place t) first_extent at entry (with_entry blocks entry)) (freed_blocks s.layout place t at ne)
+        ∙ ap (filled_or_new (freed s.layout place t) first_extent at entry) room.is ∙ ap Ok (put_freed s.layout place t at ne room.blocks)
+        ∙ sym (ap (λ (o : Option (List DirectoryBlock)). filled_or_new s.layout first_extent at entry o >>= (λ k. Ok (freed k place t))) room.is)
 
     dropped_in : (d : Directory) (m : Maybe Layout) → ((m >>= (λ k. Ok (freed k place t))) >>= grown (drop_node s place t) d) ≡ ((m >>= grown s d) >>= (λ added. Ok (drop_node added place t)))
     dropped_in d (Err why) = refl
     dropped_in d (Ok layout) = ap (λ (nodes : Nodes). Ok (record { tree = with_nodes s.tree nodes; layout = freed layout place t })) (put_dropped s.tree.nodes at t (with_name d name ino) ne)
 
     -- an entry may be added before or after an inode is dropped
-    pub added_dropped : leb (length (blocks_at s.layout at) + 1) s.layout.directory_limit ≡ false → add_name (drop_node s place t) at name ino ≡ (add_name s at name ino >>= (λ added. Ok (drop_node added place t)))
-    added_dropped full =
+    pub added_dropped : IsFilled (with_entry (blocks_at s.layout at) entry) → add_name (drop_node s place t) at name ino ≡ (add_name s at name ino >>= (λ added. Ok (drop_node added place t)))
+    added_dropped room =
         ap (λ (m : Maybe Directory). m >>= add_name_in (drop_node s place t) at name ino) dropped_directory
         ∙ past (directory_at s.tree.nodes at) (add_name_in (drop_node s place t) at name ino) (add_name_in s at name ino) (λ added. Ok (drop_node added place t))
-        (λ d. ap (λ (m : Maybe Layout). m >>= grown (drop_node s place t) d) (dropped_entry full) ∙ dropped_in d (add_entry s.layout first_extent at entry))
+        (λ d. ap (λ (m : Maybe Layout). m >>= grown (drop_node s place t) d) (dropped_entry room) ∙ dropped_in d (add_entry s.layout first_extent at entry))
 
   module _ (t : ℕ) (node : Node) (ne : at ≢ t) where
     put_directory : directory_at (map.insert s.tree.nodes t node) at ≡ directory_at s.tree.nodes at
@@ -130,47 +139,148 @@ module _ (s : State) (at : ℕ) (name : FileName) (ino : ℕ) where
         (λ d. put_in d (add_entry s.layout first_extent at entry))
 
   -- or a file loses a name
-  pub added_unlinked : (place t : ℕ) (f : File) → at ≢ t → leb (length (blocks_at s.layout at) + 1) s.layout.directory_limit ≡ false → add_name (unlinked s place t f) at name ino ≡ (add_name s at name ino >>= (λ added. Ok (unlinked added place t f)))
-  added_unlinked place t f ne full = either_links (leb f.nlink 1)
+  pub added_unlinked : (place t : ℕ) (f : File) → at ≢ t → IsFilled (with_entry (blocks_at s.layout at) entry) → add_name (unlinked s place t f) at name ino ≡ (add_name s at name ino >>= (λ added. Ok (unlinked added place t f)))
+  added_unlinked place t f ne room = either_links (leb f.nlink 1)
     where
       either_links : (last : Bool) → add_name (cond last (drop_node s place t) (set_node s t (IsFile (record f { nlink = f.nlink - 1 })))) at name ino
           ≡ (add_name s at name ino >>= (λ added. Ok (cond last (drop_node added place t) (set_node added t (IsFile (record f { nlink = f.nlink - 1 }))))))
-      either_links true = added_dropped place t ne full
+      either_links true = added_dropped place t ne room
       either_links false = added_put t (IsFile (record f { nlink = f.nlink - 1 })) ne
 
--- ---- a directory that has a name has its one block
+-- ---- a name that goes leaves room for an entry of the same name
 
-names_need_blocks : (blocks : List DirectoryBlock) (d : Directory) (name : FileName) (t : ℕ) → d.entries ≡ entries_from (entries_of blocks) → map.get d.entries name ≡ Some t → 1 ≤ length blocks
-names_need_blocks [] d name t says found = absurd (none-some t (sym (ap (λ (es : Entries). map.get es name) says ∙ map.get-empty (slice_cmp nat_cmp) name) ∙ found))
-names_need_blocks (b ∷ bs) d name t says found = omega arith
+length_bytes : (es : List DirEntry) → length (entries_bytes es) ≡ used_by es
+length_bytes [] = refl
+length_bytes (e ∷ es) =
+    let one = length-append (entry_bytes e) (entries_bytes es) in
+    let own = length-entry e in
+    let rest = length_bytes es in
+    let all = sum_by-cons entry_size e es in
+    omega arith
 
-removed_length_in : (s : State) (at : ℕ) (name : FileName) (m : Maybe Directory) (n : ℕ) → length (blocks_at (remove_name_in s at name m).layout n) ≡ length (blocks_at s.layout n)
-removed_length_in s at name (Err why) n = refl
-removed_length_in s at name (Ok d) n = elim (cases_eq n at) [
-  | inl here ↦
-      ap (λ test. length (cond test (list_map (block_without name) (blocks_at s.layout at)) (blocks_at s.layout n))) (eq-eqb n at here)
-      ∙ length-map (blocks_at s.layout at) (block_without name) ∙ ap (λ k. length (blocks_at s.layout k)) (sym here)
-  | inr other ↦ ap (λ test. length (cond test (list_map (block_without name) (blocks_at s.layout at)) (blocks_at s.layout n))) (ne_eqb n at other)
-]
+-- the bytes that entries take, without some of them
+less : (p : DirEntry → Bool) (es : List DirEntry) → used_by (filter p es) ≤ used_by es
+less p [] = omega arith
+less p (e ∷ es) =
+    let rest = less p es in
+    let all = sum_by-cons entry_size e es in
+    let kept = sum_by-cons entry_size e (filter p es) in
+    elim (cases_Bool (p e)) [
+      | inl hit ↦ rw hit (omega arith)
+      | inr miss ↦ rw miss (omega arith)
+    ]
 
-removed_limit_in : (s : State) (at : ℕ) (name : FileName) (m : Maybe Directory) → (remove_name_in s at name m).layout.directory_limit ≡ s.layout.directory_limit
-removed_limit_in s at name (Err why) = refl
-removed_limit_in s at name (Ok d) = refl
+module _ (name : FileName) where
+  abbrev bytes : ℕ
+  bytes = 5 + length name
 
-pub removed_length : (s : State) (at : ℕ) (name : FileName) (n : ℕ) → length (blocks_at (remove_name s at name).layout n) ≡ length (blocks_at s.layout n)
-removed_length s at name n = removed_length_in s at name (directory_at s.tree.nodes at) n
+  abbrev Has : List DirEntry → Type 0
+  Has es = is_some (inode_in name es) ≡ true
 
-pub removed_limit : (s : State) (at : ℕ) (name : FileName) → (remove_name s at name).layout.directory_limit ≡ s.layout.directory_limit
-removed_limit s at name = removed_limit_in s at name (directory_at s.tree.nodes at)
+  named_size : (e : DirEntry) → is_named name e ≡ true → entry_size e ≡ bytes
+  named_size e hit = ap (λ (x : FileName). 5 + length x) ((bytes_eq-Decides e.name name).0 hit)
 
-pub no_further_block : (s : State) (at : ℕ) (d : Directory) (name : FileName) (t : ℕ) → IsLaidOut s → map.get s.tree.nodes at ≡ Some (IsDirectory d) → map.get d.entries name ≡ Some t
-    → (from : ℕ) (old : FileName) → leb (length (blocks_at (remove_name (remove_name s from old) at name).layout at) + 1) (remove_name (remove_name s from old) at name).layout.directory_limit ≡ false
-no_further_block s at d name t laid found has from old =
+  in_rest : (e : DirEntry) (es : List DirEntry) → is_named name e ≡ false → Has (e ∷ es) → Has es
+  in_rest e es miss has = sym (ap is_some (found_by (is_named name e) name e es refl ∙ ap (λ (t : Bool). cond t (Some e.ino) (inode_in name es)) miss)) ∙ has
+
+  -- the name's own entry goes, whatever else goes
+  once : (es : List DirEntry) → Has es → used_by (others name es) + bytes ≤ used_by es
+  once [] has = absurd cc
+  once (e ∷ es) has =
+      let all = sum_by-cons entry_size e es in
+      elim (cases_Bool (is_named name e)) [
+        | inl hit ↦
+            let size = named_size e hit in
+            let rest = less (other_name name) es in
+            rw hit (omega arith)
+        | inr miss ↦
+            let rest = once es (in_rest e es miss has) in
+            let kept = sum_by-cons entry_size e (others name es) in
+            rw miss (omega arith)
+      ]
+
+  twice : (p : DirEntry → Bool) (es : List DirEntry) → Has es → used_by (others name (filter p es)) + bytes ≤ used_by es
+  twice p [] has = absurd cc
+  twice p (e ∷ es) has =
+      let all = sum_by-cons entry_size e es in
+      elim (cases_Bool (is_named name e)) [
+        | inl hit ↦
+            let size = named_size e hit in
+            let one = less (other_name name) (filter p es) in
+            let two = less p es in
+            elim (cases_Bool (p e)) [
+              | inl in_first ↦ rw (in_first, hit) (omega arith)
+              | inr out ↦ rw out (omega arith)
+            ]
+        | inr miss ↦
+            let rest = twice p es (in_rest e es miss has) in
+            let kept = sum_by-cons entry_size e (others name (filter p es)) in
+            elim (cases_Bool (p e)) [
+              | inl in_first ↦ rw (in_first, miss) (omega arith)
+              | inr out ↦ rw out (omega arith)
+            ]
+      ]
+
+  -- each block that has the name is left with room for the name
+  abbrev Leaves : List DirectoryBlock → List DirectoryBlock → Type 0
+  Leaves [] [] = Unit {0}
+  Leaves [] (c ∷ cs) = ⊥
+  Leaves (b ∷ bs) [] = ⊥
+  Leaves (b ∷ bs) (c ∷ cs) = (Has b.entries → used_by c.entries + bytes ≤ used_by b.entries) × Leaves bs cs
+
+  leaves_once : (bs : List DirectoryBlock) → Leaves bs (list_map (block_without name) bs)
+  leaves_once [] = tt
+  leaves_once (b ∷ bs) = (once b.entries, leaves_once bs)
+
+  leaves_twice : (old : FileName) (bs : List DirectoryBlock) → Leaves bs (list_map (block_without name) (list_map (block_without old) bs))
+  leaves_twice old [] = tt
+  leaves_twice old (b ∷ bs) = (twice (other_name old) b.entries, leaves_twice old bs)
+
+  none_of : (o : Option ℕ) → is_some o ≡ false → o ≡ None
+  none_of None is = refl
+  none_of (Some x) is = absurd cc
+
+  room_left : (ino : ℕ) (bs cs : List DirectoryBlock) → Leaves bs cs → AllByRecursion (λ (b : DirectoryBlock). IsDir 1024 b.entries) bs → Has (entries_of bs) → IsFilled (with_entry cs (record { ino = ino; name = name }))
+  room_left ino [] [] leaves fits has = absurd cc
+  room_left ino [] (c ∷ cs) leaves fits has = absurd leaves
+  room_left ino (b ∷ bs) [] leaves fits has = absurd leaves
+  room_left ino (b ∷ bs) (c ∷ cs) leaves fits has = elim (cases_Bool (has_room c (record { ino = ino; name = name }))) [
+    | inl hit ↦ record { blocks = record c { entries = c.entries ++ record { ino = ino; name = name } ∷ [] } ∷ cs; is = rw hit refl }
+    | inr full ↦
+        let absent : is_some (inode_in name b.entries) ≡ false = false_from_ne_true _ (λ here.
+        let most = leaves.0 here in
+        let room = fits.0.room in
+        let count = length_bytes b.entries in
+        both_ways _ full (le-leb _ _ (omega arith))) in
+        let later : Has (entries_of bs) = sym (ap is_some (in_append name b.entries (entries_of bs) ∙ ap (λ (o : Option ℕ). option_or o (inode_in name (entries_of bs))) (none_of (inode_in name b.entries) absent))) ∙ has in
+        let rest = room_left ino bs cs leaves.1 fits.1 later in
+        let e : DirEntry = record { ino = ino; name = name } in
+        record { blocks = c ∷ rest.blocks; is = ap (λ (t : Bool). cond t (Some (record c { entries = c.entries ++ e ∷ [] } ∷ cs)) (behind c (with_entry cs e))) full ∙ ap (behind c) rest.is }
+  ]
+
+removed_blocks_here : (s : State) (at : ℕ) (name : FileName) (d : Directory) → directory_at s.tree.nodes at ≡ Ok d → blocks_at (remove_name s at name).layout at ≡ list_map (block_without name) (blocks_at s.layout at)
+removed_blocks_here s at name d found =
+    ap (λ (m : Maybe Directory). blocks_at (remove_name_in s at name m).layout at) found ∙ ap (λ test. cond test (list_map (block_without name) (blocks_at s.layout at)) (blocks_at s.layout at)) (eq-eqb at at refl)
+
+pub room_still : (s : State) (at : ℕ) (d : Directory) (name : FileName) (t : ℕ) → IsLaidOut s → map.get s.tree.nodes at ≡ Some (IsDirectory d) → map.get d.entries name ≡ Some t
+    → (from : ℕ) (old : FileName) (ino : ℕ) → IsFilled (with_entry (blocks_at (remove_name (remove_name s from old) at name).layout at) (record { ino = ino; name = name }))
+room_still s at d name t laid found has from old ino =
     let kept = (held_node s at (IsDirectory d) laid found).kept in
-    let one : 1 ≤ length (blocks_at s.layout at) = names_need_blocks (blocks_at s.layout at) d name t kept.1 has in
-    let first_length = removed_length s from old at in
-    let second_length = removed_length (remove_name s from old) at name at in
-    let first_limit = removed_limit s from old in
-    let second_limit = removed_limit (remove_name s from old) at name in
-    let limit : s.layout.directory_limit ≤ 1 = laid.limit in
-    false_from_ne_true _ (λ below. let within = leb-true _ _ below in omega arith)
+    let there : is_some (inode_in name (entries_of (blocks_at s.layout at))) ≡ true = sym (ap is_some (ap (λ (es : Entries). map.get es name) kept.entries ∙ get_entries name (entries_of (blocks_at s.layout at)))) ∙ ap is_some has in
+    let first : State = remove_name s from old in
+    elim (cases_eq at from) [
+      | inl here ↦
+          let found_here : directory_at s.tree.nodes from ≡ Ok d = node_directory s.tree.nodes from d (ap (map.get s.tree.nodes) (sym here) ∙ found) in
+          let blocks : blocks_at first.layout at ≡ list_map (block_without old) (blocks_at s.layout at) =
+          ap (blocks_at first.layout) here ∙ removed_blocks_here s from old d found_here ∙ ap (λ (n : ℕ). list_map (block_without old) (blocks_at s.layout n)) (sym here) in
+          let still : directory_at first.tree.nodes at ≡ Ok (record d { entries = map.remove d.entries old }) =
+          node_directory first.tree.nodes at (record d { entries = map.remove d.entries old }) (ap (map.get first.tree.nodes) here ∙ removed_here s from old d found_here) in
+          let result = removed_blocks_here first at name (record d { entries = map.remove d.entries old }) still ∙ ap (list_map (block_without name)) blocks in
+          subst (λ (bs : List DirectoryBlock). IsFilled (with_entry bs (record { ino = ino; name = name }))) (sym result)
+          (room_left name ino (blocks_at s.layout at) _ (leaves_twice name old (blocks_at s.layout at)) kept.spelled there)
+      | inr other ↦
+          let still : directory_at first.tree.nodes at ≡ Ok d = node_directory first.tree.nodes at d (removed_other s from old at other ∙ found) in
+          let result = removed_blocks_here first at name d still ∙ ap (list_map (block_without name)) (removed_blocks s from old at other) in
+          subst (λ (bs : List DirectoryBlock). IsFilled (with_entry bs (record { ino = ino; name = name }))) (sym result)
+          (room_left name ino (blocks_at s.layout at) _ (leaves_once name (blocks_at s.layout at)) kept.spelled there)
+    ]

@@ -1,46 +1,48 @@
 -- Edits of a directory's names.
-use Rattle.std.proofs.Common.{◌≡◌, ◌≢◌, ℕ, suc, ◌+◌, ◌-◌, ◌*◌, ◌/◌, ◌<◌, ◌≤◌, Bool, true, false, cond, List, [], ◌∷◌, ◌++◌, map, length, Option, Some, None, Ok, Err, refl, sym, ◌∙◌, ap, subst, arith, inl, inr, append-nil, length-set}
-use Rattle.std.specs.Prelude.{◌==◌, Result, nat_le, nat_lt, is_none}
+use Rattle.std.proofs.Common.{◌≡◌, ◌≢◌, ℕ, zero, suc, ◌+◌, ◌-◌, ◌*◌, ◌<◌, ◌≤◌, Bool, true, false, cond, List, [], ◌∷◌, ◌++◌, map, length, set, get_or, Option, Some, None, Ok, Err, refl, sym, ◌∙◌, ap, subst, arith, inl, inr, length-set}
+use Rattle.std.specs.Prelude.{◌==◌, ◌||◌, Result, nat_le, nat_lt, drop}
+use Rattle.vx_base.specs.declared.kind.Kind.TheVariants.{Data}
+use Rattle.vx_model.specs.Images.{among}
+use Rattle.std.specs.List.{position_or_len}
 use Rattle.std.specs.FinMap as map
-use Rattle.std.proofs.lemmas.Bool.{cases_Bool, cases_eq, eqb-true, eq-eqb, ne_eqb, and_left, and_right, or_left, or_from, and_parts}
-use Rattle.std.proofs.lemmas.Bool.Decides.{nat_tests}
-use Rattle.vx_alloc.specs.FreeMaps.{FreeMapView, IsPlaced, with_bit, place_of, free_blocks, is_free as is_free_block}
+use Rattle.std.proofs.lemmas.Bool.{cases_Bool, cases_eq, cases_lt, eq-eqb, ne_eqb, lt-ltb, le-ltb, ltb-true, lt-leb, or_left, or_right}
+use Rattle.std.proofs.lemmas.List.{length-map}
 use Rattle.vx_base.proofs.Maps.{at_key, at_other}
 use Rattle.vx_base.specs.Paths.{FileName, is_name}
 use Rattle.vx_base.specs.declared.inode.DirEntry.{DirEntry}
 use Rattle.vx_base.specs.declared.inode.Inode.{Inode}
+use Rattle.vx_base.specs.declared.kind.FileKind.TheVariants as kind
 use Rattle.vx_base.specs.declared.refusal.Refusal.{Refusal}
 use Rattle.vx_base.specs.declared.refusal.Refusal.TheVariants as no
 use Rattle.vx_dir.specs.Sizes.{Entries}
-use Rattle.vx_dir.specs.Directories.{Directory as Names, inode_of, is_there, has_room as fits}
-use Rattle.vx_dir.specs.Directories as dir
-use Rattle.vx_inode.specs.Tables.{Table, inode_at, with_inode, with_change}
-use Rattle.vx_layout.specs.Places.{Volume}
+use Rattle.vx_dir.specs.Directories.{Directory as Names, inode_of, is_there, has_place, place_for, add_answer, blocks_with, with_entry as with_entry_in, has_room as fits}
+use Rattle.vx_dir.specs.declared.refusal.DirRefusal.{DirRefusal}
+use Rattle.vx_dir.specs.declared.refusal.DirRefusal.TheVariants as dir
+use Rattle.vx_extents.specs.Extents.{Mapped}
+use Rattle.vx_inode.specs.Tables.{Table, inode_at}
+use Rattle.vx_model.specs.Contents.{settled_of}
 use Rattle.vx_model.specs.EditLaws.{EditLaws}
 use Rattle.vx_model.specs.Edits.{with_nodes, with_name, without_name, add_name, add_name_in, remove_name, remove_name_in}
-use Rattle.vx_model.specs.Images.{among}
-use Rattle.vx_model.specs.LaidOut.{HasBlock, IsLaidOut}
+use Rattle.vx_model.specs.LaidOut.{IsLaidOut}
 use Rattle.vx_model.specs.Layout as layout
-use Rattle.vx_model.specs.Layout.{Layout, DirectoryBlock, volume, blocks_at, block_numbers, with_blocks, is_free, add_entry, filled_or_new, with_entry, has_room, new_block, with_new_block, remove_entry, other_name}
-use Rattle.vx_model.specs.Outcome.{Maybe, ◌>>=◌, unless, need}
-use Rattle.vx_model.specs.Placement.{page_place}
+use Rattle.vx_model.specs.Layout.{Layout, DirectoryBlock, blocks_at, block_numbers, space_at, with_blocks, owned, add_entry, filled_or_new, with_entry, with_new_block, has_room, remove_entry, pages_from, room_place}
+use Rattle.vx_model.specs.Outcome.{Maybe, ◌>>=◌, unless}
 use Rattle.vx_model.specs.State.{State}
-use Rattle.vx_model.specs.Touching.{Touched, IsTouched, joined, entries_touched, blocks_touched, name_touched, unit_of, units_of}
-use Rattle.vx_model.specs.Tree.{Node, Directory, IsDirectory, Tree}
+use Rattle.vx_model.specs.Touching.{Touched, IsTouched, IsOnlyIn, joined, entries_touched, name_touched, new_blocks, units_of}
+use Rattle.vx_model.specs.Tree.{Node, Directory, IsDirectory, no_attrs}
 use Rattle.vx_model.specs.Walks as walks
+use Rattle.vx_space.specs.Space.{page_blocks}
 use Rattle.vx_txn.specs.Calls.{HasGone}
-use Rattle.vx_txn.specs.Directories.{DirectoryValue, IsDirectory as HasShape, placed, blocks_in, others, without, IsNewIn}
+use Rattle.vx_txn.specs.Directories.{DirectoryValue, IsDirectory as HasShape, placed, blocks_in, maps_in, block_count, others, without, IsNewIn}
 use Rattle.vx_txn.specs.Directories as mine
-use Rattle.vx_txn.specs.Edits.{empty_directory, one_block, room_for, IsEdited, HasAnswer}
+use Rattle.vx_txn.specs.Edits.{place_answer, refused_as, IsEdited, HasAnswer}
 use Rattle.vx_txn.specs.Metas.{HasDirectory, directory_of, IsStateOf, Stands}
 use Rattle.vx_txn.specs.declared.meta.Meta.{Meta}
-use Rattle.vx_txn.proofs.Changes.{MetaChange, StateChange, ChangedAt, FreeAfter, edited, free_kept, set_change, set_here, change_at, touched_entries, next_gone, stands_of}
-use Rattle.vx_txn.proofs.Claims.{same_free, free_is, claimed}
-use Rattle.vx_txn.proofs.FreeLaws.{taken_here, taken_other, data_low, free_data}
-use Rattle.vx_txn.proofs.Placing.{none_placed}
-use Rattle.vx_txn.proofs.Placing as Placing
+use Rattle.vx_txn.proofs.Changes.{edited, free_kept, touched_entries, next_gone, stands_of}
+use Rattle.vx_txn.proofs.Claims.{same_free}
 use Rattle.vx_txn.proofs.EntryLaws.{not_named}
-use Rattle.vx_txn.proofs.StateLaws.{inode_of_node, inode_of_option, DirectoryHere, directory_here, directory_node, blocks_here, shape, found}
+use Rattle.vx_txn.proofs.Settled.{length_placed}
+use Rattle.vx_txn.proofs.StateLaws.{inode_of_node, inode_of_option, DirectoryHere, directory_here, directory_node, blocks_here, maps_here, found}
 
 -- ---- the blocks of one directory
 
@@ -52,320 +54,335 @@ module _ (l : Layout) (at : ℕ) (bs : List DirectoryBlock) where
   with_other n ne = ap (λ (t : Bool). cond t bs (l.directories n)) (ne_eqb n at ne)
 
   -- the directory keeps its blocks, with other entries
-  pub same_among : block_numbers bs ≡ block_numbers (blocks_at l at) → (b i : ℕ) → among (block_numbers (blocks_at (with_blocks l at bs) i)) b ≡ among (block_numbers (blocks_at l i)) b
-  same_among same b i = elim (cases_eq i at) [
-    | inl here ↦ subst (λ (n : ℕ). among (block_numbers (blocks_at (with_blocks l at bs) n)) b ≡ among (block_numbers (blocks_at l n)) b) (sym here)
-        (ap (λ (x : List DirectoryBlock). among (block_numbers x) b) with_here ∙ ap (λ (x : List ℕ). among x b) same)
-    | inr other ↦ ap (λ (x : List DirectoryBlock). among (block_numbers x) b) (with_other i other)
+  pub same_owned : block_numbers bs ≡ block_numbers (blocks_at l at) → (i : ℕ) → owned (with_blocks l at bs) i ≡ owned l i
+  same_owned same i = elim (cases_eq i at) [
+    | inl here ↦ subst (λ (n : ℕ). owned (with_blocks l at bs) n ≡ owned l n) (sym here)
+        (ap (λ (x : List DirectoryBlock). block_numbers x ++ (page_blocks (l.files at).present ++ l.maps at)) with_here ∙ ap (λ (x : List ℕ). x ++ (page_blocks (l.files at).present ++ l.maps at)) same)
+    | inr other ↦ ap (λ (x : List DirectoryBlock). block_numbers x ++ (page_blocks (l.files i).present ++ l.maps i)) (with_other i other)
   ]
 
-numbers_without : (name : FileName) (bs : List DirectoryBlock) → block_numbers (map (layout.without_name name) bs) ≡ block_numbers bs
+pub numbers_without : (name : FileName) (bs : List DirectoryBlock) → block_numbers (map (layout.without_name name) bs) ≡ block_numbers bs
 numbers_without name [] = refl
 numbers_without name (d ∷ bs) = ap (λ (x : List ℕ). d.block ∷ x) (numbers_without name bs)
 
-length_without : (name : FileName) (bs : List DirectoryBlock) → length (map (layout.without_name name) bs) ≡ length bs
-length_without name [] = refl
-length_without name (d ∷ bs) = ap (λ (n : ℕ). suc n) (length_without name bs)
-
-length_others : (name : FileName) (bs : List Entries) → length (map (others name) bs) ≡ length bs
-length_others name [] = refl
-length_others name (b ∷ bs) = ap (λ (n : ℕ). suc n) (length_others name bs)
-
-placed_without : (name : FileName) (at : List ℕ) (blocks : List Entries) → map (layout.without_name name) (placed at blocks) ≡ placed at (map (others name) blocks)
+placed_without : (name : FileName) (pages : List Mapped) (blocks : List Entries) → map (layout.without_name name) (placed pages blocks) ≡ placed pages (map (others name) blocks)
 placed_without name [] blocks = refl
-placed_without name (b ∷ at) [] = refl
-placed_without name (b ∷ at) (es ∷ blocks) = ap (λ (x : List DirectoryBlock). record { block = b; entries = others name es } ∷ x) (placed_without name at blocks)
+placed_without name (m ∷ pages) [] = refl
+placed_without name (m ∷ pages) (es ∷ blocks) = ap (λ (x : List DirectoryBlock). record { block = m.block; entries = others name es } ∷ x) (placed_without name pages blocks)
+
+pub numbers_placed : (pages : List Mapped) (blocks : List Entries) → length pages ≡ length blocks → block_numbers (placed pages blocks) ≡ page_blocks pages
+numbers_placed [] [] same = refl
+numbers_placed [] (es ∷ blocks) same = absurd (omega (arith, same))
+numbers_placed (m ∷ pages) [] same = absurd (omega (arith, same))
+numbers_placed (m ∷ pages) (es ∷ blocks) same = ap (λ (x : List ℕ). m.block ∷ x) (numbers_placed pages blocks (omega (arith, same)))
+
+same_pages : (k : ℕ) (bs cs : List DirectoryBlock) → block_numbers bs ≡ block_numbers cs → pages_from k bs ≡ pages_from k cs
+same_pages k [] [] same = refl
+same_pages k [] (c ∷ cs) same = absurd (omega (arith, ap length same))
+same_pages k (b ∷ bs) [] same = absurd (omega (arith, ap length same))
+same_pages k (b ∷ bs) (c ∷ cs) same =
+    let here : b.block ≡ c.block = ap (λ (xs : List ℕ). get_or xs 0 0) same in
+    let rest = same_pages (k + 1) bs cs (ap (λ (xs : List ℕ). drop 1 xs) same) in
+    λ i. record { page = k; block = here i; kind = Data } ∷ rest i
+
+-- as many blocks, with other entries
+pub same_shape : (d : DirectoryValue) (names : Names) → HasShape d → names.block_size ≡ d.names.block_size → names.limit ≡ d.names.limit → length names.blocks ≡ length d.names.blocks → HasShape (record d { names = names })
+same_shape d names shape size limit count =
+    let same_count : length d.maps.space.present ≡ length names.blocks = shape.same_count ∙ sym count in
+    record {
+      block_size = size ∙ shape.block_size;
+      limit = limit ∙ shape.limit;
+      settled = shape.settled;
+      size = shape.size;
+      same_count = same_count;
+      pages =
+          shape.pages ∙ same_pages 0 (placed d.maps.space.present d.names.blocks) (placed d.maps.space.present names.blocks)
+          (numbers_placed d.maps.space.present d.names.blocks shape.same_count ∙ sym (numbers_placed d.maps.space.present names.blocks same_count));
+    }
 
 -- ---- room
 
-room_none : (name : FileName) → is_there empty_directory.names name ≡ false → room_for empty_directory.names name ≡ Ok false
-room_none name off = rw off refl
+module _ (e : DirEntry) where
+  abbrev pub size : ℕ
+  size = 5 + length e.name
 
-room_one : (hit : Bool) (b : ℕ) (es : Entries) (name : FileName) → fits 1020 (5 + length name) es ≡ hit → is_there (one_block b es).names name ≡ false
-    → room_for (one_block b es).names name ≡ cond hit (Ok true) (Err (no.TooBig 2048))
-room_one true b es name is off = rw (off, is) refl
-room_one false b es name is off = rw (off, is) refl
+  abbrev pub place_in : List Entries → ℕ
+  place_in blocks = position_or_len (fits 1020 size) blocks
 
--- the directory that the answer of the check leaves
-fits_by : (d : DirectoryValue) (name : FileName) → inode_of d.names name ≡ None → (answer : Result Bool Refusal) → room_for d.names name ≡ answer → (b : ℕ) (es : Entries) → d ≡ one_block b es
-    → answer ≡ cond (fits 1020 (5 + length name) es) (Ok true) (Err (no.TooBig 2048))
-fits_by d name new answer is b es one =
-    sym is ∙ ap (λ (x : DirectoryValue). room_for x.names name) one
-    ∙ room_one (fits 1020 (5 + length name) es) b es name refl (sym (ap (λ (x : DirectoryValue). is_there x.names name) one) ∙ not_named d.names name new)
+  first_place : (es : Entries) (blocks : List Entries) (i : ℕ) → fits 1020 size es ≡ true → i ≡ place_in (es ∷ blocks) → i ≡ 0
+  first_place es blocks i hit is = is ∙ rw hit refl
 
-empty_by : (d : DirectoryValue) (name : FileName) → inode_of d.names name ≡ None → (answer : Result Bool Refusal) → room_for d.names name ≡ answer → d ≡ empty_directory → answer ≡ Ok false
-empty_by d name new answer is none =
-    sym is ∙ ap (λ (x : DirectoryValue). room_for x.names name) none
-    ∙ room_none name (sym (ap (λ (x : DirectoryValue). is_there x.names name) none) ∙ not_named d.names name new)
+  later_place : (es : Entries) (blocks : List Entries) (i : ℕ) → fits 1020 size es ≡ false → i ≡ place_in (es ∷ blocks) → i ≡ suc (place_in blocks)
+  later_place es blocks i miss is = is ∙ rw miss (omega arith)
 
-fits_true : (hit : Bool) → ◌≡◌ {A = Result Bool Refusal} (Ok true) (cond hit (Ok true) (Err (no.TooBig 2048))) → hit ≡ true
-fits_true true e = refl
-fits_true false e = absurd (cc)
+  -- the first block with room has the entry, where there is one
+  pub filled_at : (pages : List Mapped) (blocks : List Entries) (i : ℕ) → length pages ≡ length blocks → i ≡ place_in blocks → i < length blocks
+      → with_entry (placed pages blocks) e ≡ Some (placed pages (set blocks i (get_or blocks i [] ++ e ∷ [])))
+  filled_at pages [] i same is within = absurd (omega (arith, within))
+  filled_at [] (es ∷ blocks) i same is within = absurd (omega (arith, same))
+  filled_at (m ∷ pages) (es ∷ blocks) zero same is within = elim (cases_Bool (fits 1020 size es)) [
+    | inl hit ↦ rw hit refl
+    | inr miss ↦ let later = later_place es blocks 0 miss is in absurd (omega (arith, later))
+  ]
+  filled_at (m ∷ pages) (es ∷ blocks) (suc i) same is within = elim (cases_Bool (fits 1020 size es)) [
+    | inl hit ↦ let first = first_place es blocks (suc i) hit is in absurd (omega (arith, first))
+    | inr miss ↦
+        let later = later_place es blocks (suc i) miss is in
+        let rest = filled_at pages blocks i (omega (arith, same)) (omega (arith, later)) (omega (arith, within)) in
+        rw miss (ap (layout.behind (record { block = m.block; entries = es })) rest)
+  ]
 
-never_false : (hit : Bool) → ◌≡◌ {A = Result Bool Refusal} (Ok false) (cond hit (Ok true) (Err (no.TooBig 2048))) → ⊥
-never_false true e = cc
-never_false false e = cc
+  pub place_most : (blocks : List Entries) → place_in blocks ≤ length blocks
+  place_most [] = omega arith
+  place_most (es ∷ blocks) = elim (cases_Bool (fits 1020 size es)) [
+    | inl hit ↦ let q : place_in (es ∷ blocks) ≡ 0 = rw hit refl in omega arith
+    | inr miss ↦
+        let q : place_in (es ∷ blocks) ≡ suc (place_in blocks) = rw miss (omega arith) in
+        let rest = place_most blocks in omega arith
+  ]
 
-fits_false : (hit : Bool) (why : Refusal) → ◌≡◌ {A = Result Bool Refusal} (Err why) (cond hit (Ok true) (Err (no.TooBig 2048))) → (hit ≡ false) × (why ≡ no.TooBig 2048)
-fits_false true why e = absurd (cc)
-fits_false false why e = (refl, cc)
+  pub no_block_has_room : (pages : List Mapped) (blocks : List Entries) → length pages ≡ length blocks → length blocks ≤ place_in blocks → with_entry (placed pages blocks) e ≡ None
+  no_block_has_room [] [] same past = refl
+  no_block_has_room [] (es ∷ blocks) same past = absurd (omega (arith, same))
+  no_block_has_room (m ∷ pages) [] same past = refl
+  no_block_has_room (m ∷ pages) (es ∷ blocks) same past = elim (cases_Bool (fits 1020 size es)) [
+    | inl hit ↦ let q : place_in (es ∷ blocks) ≡ 0 = rw hit refl in absurd (omega (arith, past, q))
+    | inr miss ↦
+        let q : place_in (es ∷ blocks) ≡ suc (place_in blocks) = rw miss (omega arith) in
+        let rest = no_block_has_room pages blocks (omega (arith, same)) (omega (arith, past, q)) in
+        rw miss (ap (layout.behind (record { block = m.block; entries = es })) rest)
+  ]
 
-abbrev if_block : Layout → ℕ → DirEntry → Option ℕ → Maybe Layout
-if_block l at e o = need o (no.NoSpace 1 0) >>= (λ (b : ℕ). Ok (with_blocks l at (record { block = b; entries = e ∷ [] } ∷ [])))
+  pub room_is : (pages : List Mapped) (blocks : List Entries) (i : ℕ) → length pages ≡ length blocks → i ≡ place_in blocks → room_place (placed pages blocks) e ≡ i
+  room_is [] [] i same is = sym is
+  room_is [] (es ∷ blocks) i same is = absurd (omega (arith, same))
+  room_is (m ∷ pages) [] i same is = absurd (omega (arith, same))
+  room_is (m ∷ pages) (es ∷ blocks) zero same is = elim (cases_Bool (fits 1020 size es)) [
+    | inl hit ↦ rw hit refl
+    | inr miss ↦ let later = later_place es blocks 0 miss is in absurd (omega (arith, later))
+  ]
+  room_is (m ∷ pages) (es ∷ blocks) (suc i) same is = elim (cases_Bool (fits 1020 size es)) [
+    | inl hit ↦ let first = first_place es blocks (suc i) hit is in absurd (omega (arith, first))
+    | inr miss ↦
+        let later = later_place es blocks (suc i) miss is in
+        let rest = room_is pages blocks i (omega (arith, same)) (omega (arith, later)) in
+        rw miss (ap (λ (n : ℕ). suc n) rest)
+  ]
 
--- a first block
-new_first : (l : Layout) (first at : ℕ) (e : DirEntry) → l.directory_limit ≡ 1 → (o : Option ℕ) → new_block l first [] ≡ o → with_new_block l first at [] e ≡ if_block l at e o
-new_first l first at e limit o is =
-    ap (λ (n : ℕ). unless (nat_le 1 n) (no.TooBig 1024) (if_block l at e (new_block l first []))) limit ∙ ap (if_block l at e) is
+-- ---- what the check answers
 
--- a free block does not wait
-none_from : (o : Option ℕ) → is_none o ≡ true → o ≡ None
-none_from None is = refl
-none_from (Some x) is = absurd (cc)
+place_by : (t h : Bool) (i j : ℕ) (big : DirRefusal) → t ≡ false → refused_as (cond t (Err dir.Exist) (cond h (Ok i) (Err big))) ≡ Ok j → (i ≡ j) × (h ≡ true)
+place_by true h i j big e is = absurd (cc)
+place_by false true i j big e is = (cc, refl)
+place_by false false i j dir.Exist e is = absurd (cc)
+place_by false false i j (dir.TooBig end) e is = absurd (cc)
+place_by false false i j dir.NoMemory e is = absurd (cc)
 
-pub free_not_pending : (m : Meta) (s : State) (b : ℕ) → IsStateOf m s → is_free_block m.free b ≡ true → place_of m.free b ≡ None
-free_not_pending m s b is free =
-    let parts = and_parts _ _ ((and_parts _ _ (sym (is.free b ∙ free_is s.layout b) ∙ free)).1) in
-    is.pending b ∙ none_from (s.layout.pending b) parts.1
+big_by : (t h : Bool) (i end : ℕ) (why : Refusal) → t ≡ false → refused_as (cond t (Err dir.Exist) (cond h (Ok i) (Err (dir.TooBig end)))) ≡ Err why → (why ≡ no.TooBig end) × (h ≡ false)
+big_by true h i end why e is = absurd (cc)
+big_by false true i end why e is = absurd (cc)
+big_by false false i end why e is = (cc, refl)
 
-pub touched_block : (t a b v : Touched) (at u : ℕ) → a ≡ record t { directories = t.directories ++ at ∷ [] } → b ≡ record a { inodes = a.inodes ++ at ∷ [] } → v ≡ record b { units = b.units ++ u ∷ [] } → v ≡ joined t (blocks_touched at (u ∷ []))
-touched_block t a b v at u first second third =
-    third ∙ ap (λ (x : Touched). record x { units = x.units ++ u ∷ [] }) (second ∙ ap (λ (x : Touched). record x { inodes = x.inodes ++ at ∷ [] }) first)
+module _ (d : DirectoryValue) (shape : HasShape d) (name : FileName) (ino : ℕ) (new : inode_of d.names name ≡ None) where
+  abbrev pub entry : DirEntry
+  entry = record { ino = ino; name = name }
+
+  same_place : place_for d.names (5 + length name) ≡ place_in entry d.names.blocks
+  same_place = ap (λ (b : ℕ). position_or_len (fits (b - 4) (5 + length name)) d.names.blocks) shape.block_size
+
+  pub answered_place : (i : ℕ) → place_answer d.names name ≡ Ok i → (place_in entry d.names.blocks ≡ i) × (has_place d.names (5 + length name) ≡ true)
+  answered_place i answer =
+      let p = place_by (is_there d.names name) (has_place d.names (5 + length name)) (place_for d.names (5 + length name)) i _ (not_named d.names name new) answer in
+      (sym same_place ∙ p.0, p.1)
+
+  pub answered_big : (why : Refusal) → place_answer d.names name ≡ Err why → (why ≡ no.TooBig (1024 * (length d.names.blocks + 1))) × (has_place d.names (5 + length name) ≡ false)
+  answered_big why answer =
+      let p = big_by (is_there d.names name) (has_place d.names (5 + length name)) (place_for d.names (5 + length name)) _ why (not_named d.names name new) answer in
+      (p.0 ∙ ap (λ (b : ℕ). no.TooBig (b * (length d.names.blocks + 1))) shape.block_size, p.1)
+
+  -- there is no room, but for a block more
+  pub more_room : length d.names.blocks ≤ place_in entry d.names.blocks → has_place d.names (5 + length name) ≡ true → length d.names.blocks < 64
+  more_room past has =
+      let place = same_place in
+      let full : nat_lt (place_for d.names (5 + length name)) (length d.names.blocks) ≡ false = le-ltb _ _ (omega (arith, past, place)) in
+      let below : nat_lt (length d.names.blocks) d.names.limit ≡ true = sym (ap (λ (t : Bool). t || nat_lt (length d.names.blocks) d.names.limit) full) ∙ has in
+      let most : length d.names.blocks < d.names.limit = ltb-true _ _ below in
+      let limit : d.names.limit ≡ 64 = shape.limit in
+      omega (arith, most, limit)
+
+  pub no_room : has_place d.names (5 + length name) ≡ false → (length d.names.blocks ≤ place_in entry d.names.blocks) × (64 ≤ length d.names.blocks)
+  no_room has = elim (cases_lt (place_for d.names (5 + length name)) (length d.names.blocks)) [
+    | inl lt ↦ absurd (let e : has_place d.names (5 + length name) ≡ true = or_left _ _ (lt-ltb _ _ lt) in cc)
+    | inr past ↦ elim (cases_lt (length d.names.blocks) d.names.limit) [
+      | inl below ↦ absurd (let e : has_place d.names (5 + length name) ≡ true = or_right _ _ (lt-ltb _ _ below) in cc)
+      | inr most ↦ let place = same_place in let limit : d.names.limit ≡ 64 = shape.limit in (omega (arith, past, place), omega (arith, most, limit))
+    ]
+  ]
 
 -- a directory that does not have the name
 pub new_directory : (name : FileName) (o : Option DirectoryValue) → IsNewIn name o → (d : DirectoryValue) × (o ≡ Some d)
 new_directory name None new = absurd new
 new_directory name (Some d) new = (d, refl)
 
--- ---- a name less
+-- ---- other entries in the blocks that there are
 
 module _ (laws : EditLaws) (base s : State) (m k : Meta) (t v : Touched) (gone : HasGone base s m t) (at : ℕ) (d : DirectoryValue) (there : directory_of m at ≡ Some d) where
-  abbrev stands : Stands m s
+  abbrev pub stands : Stands m s
   stands = stands_of base s m t gone
 
-  abbrev own : DirectoryHere s.layout at (inode_at m.inodes at) (map.get s.tree.nodes at) d
+  abbrev pub own : DirectoryHere s.layout at (inode_at m.inodes at) (map.get s.tree.nodes at) d
   own = directory_here m s stands at d there
 
-  is_directory : walks.directory_at s.tree.nodes at ≡ Ok own.tree
+  pub is_directory : walks.directory_at s.tree.nodes at ≡ Ok own.tree
   is_directory = directory_node m s stands at d there
 
-  pub removed_gone : (name : FileName) → directory_of k at ≡ Some (without name d) → ((n : ℕ) → n ≢ at → directory_of k n ≡ directory_of m n) → k.inodes ≡ m.inodes → k.free ≡ m.free → k.first ≡ m.first
-      → v ≡ record t { directories = t.directories ++ at ∷ [] } → HasGone base (remove_name s at name) k v
-  removed_gone name here other inodes free first touched =
-      let new : State = record { tree = with_nodes s.tree (map.insert s.tree.nodes at (without_name own.tree name)); layout = remove_entry s.layout at name } in
-      let bs : List DirectoryBlock = map (layout.without_name name) (blocks_at s.layout at) in
-      let is : remove_name s at name ≡ new = ap (remove_name_in s at name) is_directory in
-      let inode : inode_at k.inodes at ≡ Some (inode_of_node (blocks_at s.layout at) (IsDirectory own.tree)) = ap (λ (x : Table). inode_at x at) inodes ∙ own.inode_there in
-      let same_inode : inode_of_node bs (without_name own.tree name) ≡ inode_of_node (blocks_at s.layout at) (IsDirectory own.tree) = rw (length_without name (blocks_at s.layout at)) refl in
-      let changed : ChangedAt k new at = record {
-        inode = inode ∙ ap Some (sym same_inode) ∙ sym (ap (inode_of_option bs) (at_key s.tree.nodes at (without_name own.tree name)))
-            ∙ ap (λ (x : List DirectoryBlock). inode_of_option x (map.get new.tree.nodes at)) (sym (with_here s.layout at bs));
-        blocks = with_here s.layout at bs ∙ ap (map (layout.without_name name)) (blocks_here m s stands at (Some d) there) ∙ placed_without name d.at d.names.blocks ∙ ap blocks_in (sym here);
-        kind = subst (λ (o : Option DirectoryValue). HasDirectory (inode_at k.inodes at) o) (sym here) (subst (λ (o : Option Inode). HasDirectory o (Some (without name d))) (sym inode)
-            (refl, record { block_size = own.shape.block_size; limit = own.shape.limit; same_count = own.shape.same_count ∙ sym (length_others name d.names.blocks) }));
-      } in
-      let state : IsStateOf k new =
-      edited m k s new at gone.state
-      (record { inodes = λ n ne. ap (λ (x : Table). inode_at x n) inodes; directories = other; units = ap (λ (x : Table). x.units) inodes; first = first })
-      (record { nodes = λ n ne. at_other s.tree.nodes at (without_name own.tree name) n ne; blocks = λ n ne. with_other s.layout at bs n ne; units = refl; log_blocks = refl; limit = refl })
-      changed
-      (free_kept m k s new.layout gone.state free (λ b. same_free s.layout new.layout b refl refl (λ i. same_among s.layout at bs (numbers_without name (blocks_at s.layout at)) b i) refl) (λ b. refl)) in
-      next_gone laws base s (remove_name s at name) m k t (entries_touched at) v gone (subst (λ (x : State). IsStateOf k x) (sym is) state) (laws.removed s at name gone.laid_out) (laws.removed_touches s at name gone.laid_out)
-      (touched ∙ touched_entries t at)
+  abbrev pub old_pages : List Mapped
+  old_pages = d.maps.space.present
+
+  old_blocks : blocks_at s.layout at ≡ placed old_pages d.names.blocks
+  old_blocks = blocks_here m s stands at (Some d) there
+
+  module _ (tree : Directory) (names : Names) (mode : tree.mode ≡ own.tree.mode) (size : names.block_size ≡ d.names.block_size) (limit : names.limit ≡ d.names.limit) (count : length names.blocks ≡ length d.names.blocks) where
+    abbrev pub filled_blocks : List DirectoryBlock
+    filled_blocks = placed old_pages names.blocks
+
+    abbrev pub filled_state : State
+    filled_state = record { tree = with_nodes s.tree (map.insert s.tree.nodes at (IsDirectory tree)); layout = with_blocks s.layout at filled_blocks }
+
+    abbrev value : DirectoryValue
+    value = record d { names = names }
+
+    shape : HasShape value
+    shape = same_shape d names own.shape size limit count
+
+    same_numbers : block_numbers filled_blocks ≡ block_numbers (blocks_at s.layout at)
+    same_numbers = numbers_placed old_pages names.blocks shape.same_count ∙ sym (ap block_numbers old_blocks ∙ numbers_placed old_pages d.names.blocks own.shape.same_count)
+
+    pub same_length : length (blocks_at filled_state.layout at) ≡ length (blocks_at s.layout at)
+    same_length =
+        ap length (with_here s.layout at filled_blocks) ∙ sym (length-map filled_blocks (λ (x : DirectoryBlock). x.block)) ∙ ap length same_numbers
+        ∙ length-map (blocks_at s.layout at) (λ (x : DirectoryBlock). x.block)
+
+    same_inode : inode_of_node (settled_of s.layout at) (IsDirectory own.tree) ≡ inode_of_node (settled_of filled_state.layout at) (IsDirectory tree)
+    same_inode = λ i. record { kind = kind.Directory; mode = sym mode i; nlink = 1; size = 1024 * sym same_length i + (space_at s.layout at).size; attrs = no_attrs }
+
+    pub filled_is : directory_of k at ≡ Some value → ((n : ℕ) → n ≢ at → directory_of k n ≡ directory_of m n) → k.inodes ≡ m.inodes → k.free ≡ m.free → k.first ≡ m.first → IsStateOf k filled_state
+    filled_is here other inodes free first =
+        let inode : inode_at k.inodes at ≡ Some (inode_of_node (settled_of filled_state.layout at) (IsDirectory tree)) = ap (λ (x : Table). inode_at x at) inodes ∙ own.inode_there ∙ ap Some same_inode in
+        edited m k s filled_state at gone.state
+        (record { inodes = λ n ne. ap (λ (x : Table). inode_at x n) inodes; directories = other; units = ap (λ (x : Table). x.units) inodes; first = first })
+        (record {
+          nodes = λ n ne. at_other s.tree.nodes at (IsDirectory tree) n ne;
+          blocks = λ n ne. with_other s.layout at filled_blocks n ne;
+          maps = λ n ne. refl;
+          spaces = λ n ne. refl;
+          units = refl;
+          log_blocks = refl;
+          limit = refl;
+        })
+        (record {
+          inode = inode ∙ sym (ap (inode_of_option (settled_of filled_state.layout at)) (at_key s.tree.nodes at (IsDirectory tree)));
+          blocks = with_here s.layout at filled_blocks ∙ sym (ap blocks_in here);
+          maps = maps_here m s stands at (Some d) there ∙ sym (ap maps_in here);
+          kind = subst (λ (o : Option DirectoryValue). HasDirectory (inode_at k.inodes at) o) (sym here) (subst (λ (o : Option Inode). HasDirectory o (Some value)) (sym inode) (refl, shape));
+        })
+        (free_kept m k s filled_state.layout gone.state free
+        (λ b. same_free s.layout filled_state.layout b refl refl (λ i. ap (λ (xs : List ℕ). among xs b) (same_owned s.layout at filled_blocks same_numbers i)) refl) (λ b. refl))
+
+  -- ---- a name less
+
+  pub removed_gone : (name : FileName) (i : ℕ) → IsOnlyIn name i (blocks_in (Some d)) → directory_of k at ≡ Some (without name d) → ((n : ℕ) → n ≢ at → directory_of k n ≡ directory_of m n) → k.inodes ≡ m.inodes → k.free ≡ m.free → k.first ≡ m.first
+      → v ≡ record t { blocks = t.blocks ++ record { ino = at; index = i } ∷ [] } → HasGone base (remove_name s at name) k v
+  removed_gone name i only here other inodes free first touched =
+      let tree : Directory = record own.tree { entries = map.remove own.tree.entries name } in
+      let names : Names = record d.names { blocks = map (others name) d.names.blocks } in
+      let count : length names.blocks ≡ length d.names.blocks = length-map d.names.blocks (others name) in
+      let blocks : map (layout.without_name name) (blocks_at s.layout at) ≡ placed old_pages names.blocks = ap (map (layout.without_name name)) old_blocks ∙ placed_without name old_pages d.names.blocks in
+      let is : remove_name s at name ≡ filled_state tree names refl refl refl count =
+      ap (remove_name_in s at name) is_directory
+      ∙ ap (λ (bs : List DirectoryBlock). record { tree = with_nodes s.tree (map.insert s.tree.nodes at (IsDirectory tree)); layout = with_blocks s.layout at bs }) blocks in
+      let state = filled_is tree names refl refl refl count here other inodes free first in
+      next_gone laws base s (remove_name s at name) m k t (entries_touched at i) v gone (subst (λ (x : State). IsStateOf k x) (sym is) state) (laws.removed s at name gone.laid_out)
+      (laws.removed_touches s at i name gone.laid_out (subst (IsOnlyIn name i) (sym old_blocks) only)) (touched ∙ touched_entries t at i)
 
   -- ---- a name more
 
-  -- the entry in the one block, or in a new one
-  abbrev named_state : FileName → ℕ → DirectoryBlock → State
-  named_state name ino b = record { tree = with_nodes s.tree (map.insert s.tree.nodes at (with_name own.tree name ino)); layout = with_blocks s.layout at (b ∷ []) }
-
   module _ (name : FileName) (ino : ℕ) where
-    abbrev entry : DirEntry
-    entry = record { ino = ino; name = name }
+    abbrev pub first_extent : ℕ
+    first_extent = s.tree.tunables.initial_extent_size
 
-    named_by : (l : Layout) → add_entry s.layout s.tree.tunables.initial_extent_size at entry ≡ Ok l
-        → add_name s at name ino ≡ Ok (record { tree = with_nodes s.tree (map.insert s.tree.nodes at (with_name own.tree name ino)); layout = l })
+    abbrev pub named : DirEntry
+    named = record { ino = ino; name = name }
+
+    pub named_by : (l : Layout) → add_entry s.layout first_extent at named ≡ Ok l → add_name s at name ino ≡ Ok (record { tree = with_nodes s.tree (map.insert s.tree.nodes at (with_name own.tree name ino)); layout = l })
     named_by l is =
         ap (λ (r : Maybe Directory). r >>= add_name_in s at name ino) is_directory
         ∙ ap (λ (r : Maybe Layout). r >>= (λ x. Ok (record { tree = with_nodes s.tree (map.insert s.tree.nodes at (with_name own.tree name ino)); layout = x }))) is
 
-    pub refused_by : (why : Refusal) → add_entry s.layout s.tree.tunables.initial_extent_size at entry ≡ Err why → add_name s at name ino ≡ Err why
+    pub refused_by : (why : Refusal) → add_entry s.layout first_extent at named ≡ Err why → add_name s at name ino ≡ Err why
     refused_by why is =
         ap (λ (r : Maybe Directory). r >>= add_name_in s at name ino) is_directory
         ∙ ap (λ (r : Maybe Layout). r >>= (λ x. Ok (record { tree = with_nodes s.tree (map.insert s.tree.nodes at (with_name own.tree name ino)); layout = x }))) is
 
-    absent : inode_of d.names name ≡ None → map.get own.tree.entries name ≡ None
+    pub absent : inode_of d.names name ≡ None → map.get own.tree.entries name ≡ None
     absent new = found m s stands at d name there ∙ new
 
-    -- what stands at the number, where the directory has this one block
-    named_here : (b : ℕ) (es : Entries) (n : ℕ) → inode_at k.inodes at ≡ Some (record (inode_of_node [] (IsDirectory own.tree)) { size = 1024 }) → directory_of k at ≡ Some (one_block b es) → ChangedAt k (named_state name ino (record { block = b; entries = es })) at
-    named_here b es n inode here = record {
-      inode = inode ∙ sym (ap (inode_of_option (record { block = b; entries = es } ∷ [])) (at_key s.tree.nodes at (with_name own.tree name ino)))
-          ∙ ap (λ (x : List DirectoryBlock). inode_of_option x (map.get (map.insert s.tree.nodes at (with_name own.tree name ino)) at)) (sym (with_here s.layout at (record { block = b; entries = es } ∷ [])));
-      blocks = with_here s.layout at (record { block = b; entries = es } ∷ []) ∙ ap blocks_in (sym here);
-      kind = subst (λ (o : Option DirectoryValue). HasDirectory (inode_at k.inodes at) o) (sym here) (subst (λ (o : Option Inode). HasDirectory o (Some (one_block b es))) (sym inode)
-          (refl, record { block_size = refl; limit = refl; same_count = refl }));
-    }
+    pub laid_out_named : (new : State) → is_name name ≡ true → inode_of d.names name ≡ None → ino < 128 * m.inodes.units → add_name s at name ino ≡ Ok new → IsLaidOut new
+    laid_out_named new legal none low is =
+        laws.added s new at ino name own.tree gone.laid_out own.node_there legal (absent none) (subst (λ (n : ℕ). ino < 128 * n) (sym gone.state.units) low) is
 
-    named_change : (x : DirectoryBlock) → StateChange s (named_state name ino x) at
-    named_change x = record {
-      nodes = λ n ne. at_other s.tree.nodes at (with_name own.tree name ino) n ne;
-      blocks = λ n ne. with_other s.layout at (x ∷ []) n ne;
-      units = refl;
-      log_blocks = refl;
-      limit = refl;
-    }
-
-    laid_out_named : (x : DirectoryBlock) → is_name name ≡ true → inode_of d.names name ≡ None → ino < 128 * m.inodes.units → add_name s at name ino ≡ Ok (named_state name ino x) → IsLaidOut (named_state name ino x)
-    laid_out_named x legal new low is =
-        laws.added s (named_state name ino x) at ino name own.tree gone.laid_out own.node_there legal (absent new) (subst (λ (n : ℕ). ino < 128 * n) (sym gone.state.units) low) is
+    -- no block has room
+    pub not_filled : length d.names.blocks ≤ place_in named d.names.blocks → add_entry s.layout first_extent at named ≡ with_new_block s.layout first_extent at named
+    not_filled past = ap (filled_or_new s.layout first_extent at named) (ap (λ (bs : List DirectoryBlock). with_entry bs named) old_blocks ∙ no_block_has_room named old_pages d.names.blocks own.shape.same_count past)
 
     -- ---- in a block with room
 
-    module _ (b : ℕ) (es : Entries) (one : d ≡ one_block b es) (room : fits 1020 (5 + length name) es ≡ true) where
-      abbrev filled : DirectoryBlock
-      filled = record { block = b; entries = es ++ entry ∷ [] }
-
-      old_one : blocks_at s.layout at ≡ record { block = b; entries = es } ∷ []
-      old_one = blocks_here m s stands at (Some d) there ∙ ap (λ (x : DirectoryValue). blocks_in (Some x)) one
-
-      filled_is : add_name s at name ino ≡ Ok (named_state name ino filled)
-      filled_is = named_by (with_blocks s.layout at (filled ∷ []))
-          (ap (λ (x : List DirectoryBlock). filled_or_new s.layout s.tree.tunables.initial_extent_size at x entry (with_entry x entry)) old_one ∙ rw room refl)
-
-      filled_value : mine.with_name entry (one_block b es) ≡ one_block b (es ++ entry ∷ [])
-      filled_value = rw room refl
-
-      pub filled_gone : is_name name ≡ true → inode_of d.names name ≡ None → ino < 128 * m.inodes.units → directory_of k at ≡ Some (mine.with_name entry d) → ((n : ℕ) → n ≢ at → directory_of k n ≡ directory_of m n)
-          → k.inodes ≡ m.inodes → k.free ≡ m.free → k.first ≡ m.first → v ≡ record t { directories = t.directories ++ at ∷ [] } → IsEdited base (add_name s at name ino) k v
-      filled_gone legal new low here other inodes free first touched =
-          let inode : inode_at k.inodes at ≡ Some (record (inode_of_node [] (IsDirectory own.tree)) { size = 1024 }) =
-          ap (λ (x : Table). inode_at x at) inodes ∙ own.inode_there ∙ ap (λ (x : List DirectoryBlock). Some (inode_of_node x (IsDirectory own.tree))) old_one in
-          let value : directory_of k at ≡ Some (one_block b (es ++ entry ∷ [])) = here ∙ ap (λ (x : DirectoryValue). Some (mine.with_name entry x)) one ∙ ap Some filled_value in
-          let after : State = named_state name ino filled in
-          let state : IsStateOf k after =
-          edited m k s after at gone.state
-          (record { inodes = λ n ne. ap (λ (x : Table). inode_at x n) inodes; directories = other; units = ap (λ (x : Table). x.units) inodes; first = first })
-          (named_change filled) (named_here b (es ++ entry ∷ []) 0 inode value)
-          (free_kept m k s after.layout gone.state free (λ q. same_free s.layout after.layout q refl refl (λ i. same_among s.layout at (filled ∷ []) (sym (ap block_numbers old_one)) q i) refl) (λ q. refl)) in
-          let counts : (length (blocks_at after.layout at) == length (blocks_at s.layout at)) ≡ true = rw (with_here s.layout at (filled ∷ []), old_one) refl in
-          let touches : IsTouched s after (entries_touched at) =
-          subst (λ (x : Touched). IsTouched s after x) (ap (λ (c : Bool). cond c (entries_touched at) (blocks_touched at (units_of after at))) counts) (laws.added_touches s after at ino name gone.laid_out filled_is) in
-          subst (λ (r : Maybe State). IsEdited base r k v) (sym filled_is)
-          (next_gone laws base s after m k t (entries_touched at) v gone state (laid_out_named filled legal new low filled_is) touches (touched ∙ touched_entries t at))
+    pub filled_gone : (i : ℕ) → place_answer d.names name ≡ Ok i → i < length d.names.blocks → is_name name ≡ true → inode_of d.names name ≡ None → ino < 128 * m.inodes.units → directory_of k at ≡ Some (mine.with_name named d)
+        → ((n : ℕ) → n ≢ at → directory_of k n ≡ directory_of m n) → k.inodes ≡ m.inodes → k.free ≡ m.free → k.first ≡ m.first → v ≡ record t { blocks = t.blocks ++ record { ino = at; index = i } ∷ [] } → IsEdited base (add_name s at name ino) k v
+    filled_gone i answer within legal new low here other inodes free first touched =
+        let at_place = answered_place d own.shape name ino new i answer in
+        let p : ℕ = place_in named d.names.blocks in
+        let place : p ≡ i = at_place.0 in
+        let filled : List Entries = set d.names.blocks p (get_or d.names.blocks p [] ++ named ∷ []) in
+        let names : Names = record d.names { blocks = filled } in
+        let inside : p < length d.names.blocks = omega (arith, place, within) in
+        let count : length filled ≡ length d.names.blocks = length-set d.names.blocks p (get_or d.names.blocks p [] ++ named ∷ []) in
+        let value_is : mine.with_name named d ≡ record d { names = names } =
+        ap (λ (x : ℕ). record d { names = record d.names { blocks = blocks_with d.names.blocks x named } }) (ap (λ (b : ℕ). position_or_len (fits (b - 4) (5 + length name)) d.names.blocks) own.shape.block_size)
+        ∙ ap (λ (c : Bool). record d { names = record d.names { blocks = cond c filled (d.names.blocks ++ (named ∷ []) ∷ []) } }) (lt-ltb p (length d.names.blocks) inside) in
+        let tree : Directory = record own.tree { entries = map.insert own.tree.entries name ino } in
+        let after : State = filled_state tree names refl refl refl count in
+        let is : add_name s at name ino ≡ Ok after =
+        named_by (with_blocks s.layout at (placed old_pages filled))
+        (ap (filled_or_new s.layout first_extent at named) (ap (λ (bs : List DirectoryBlock). with_entry bs named) old_blocks ∙ filled_at named old_pages d.names.blocks p own.shape.same_count refl inside)) in
+        let state = filled_is tree names refl refl refl count (here ∙ ap Some value_is) other inodes free first in
+        let same : (length (blocks_at after.layout at) == length (blocks_at s.layout at)) ≡ true = eq-eqb _ _ (same_length tree names refl refl refl count) in
+        let room : room_place (blocks_at s.layout at) named ≡ i = ap (λ (bs : List DirectoryBlock). room_place bs named) old_blocks ∙ room_is named old_pages d.names.blocks p own.shape.same_count refl ∙ place in
+        let touches : IsTouched s after (entries_touched at i) =
+        subst (λ (x : Touched). IsTouched s after x)
+        (ap (λ (c : Bool). cond c (entries_touched at (room_place (blocks_at s.layout at) named)) (new_touched after)) same ∙ ap (entries_touched at) room)
+        (laws.added_touches s after at ino name gone.laid_out is) in
+        subst (λ (r : Maybe State). IsEdited base r k v) (sym is)
+        (next_gone laws base s after m k t (entries_touched at i) v gone state (laid_out_named after legal new low is) touches (touched ∙ touched_entries t at i))
+      where
+        new_touched : State → Touched
+        new_touched after = record {
+          inodes = at ∷ [];
+          blocks = record { ino = at; index = room_place (blocks_at s.layout at) named } ∷ [];
+          maps = at ∷ [];
+          units = units_of (layout.volume after.layout) (new_blocks s after at);
+        }
 
     -- ---- where no block has room, and there may be no further one
 
-    pub full_is : (b : ℕ) (es : Entries) → d ≡ one_block b es → fits 1020 (5 + length name) es ≡ false → add_name s at name ino ≡ Err (no.TooBig 2048)
-    full_is b es one room =
-        let old : blocks_at s.layout at ≡ record { block = b; entries = es } ∷ [] = blocks_here m s stands at (Some d) there ∙ ap (λ (x : DirectoryValue). blocks_in (Some x)) one in
-        refused_by (no.TooBig 2048)
-        (ap (λ (x : List DirectoryBlock). filled_or_new s.layout s.tree.tunables.initial_extent_size at x entry (with_entry x entry)) old ∙ rw (room, gone.state.limit) refl)
-
-    pub too_big : inode_of d.names name ≡ None → (why : Refusal) → room_for d.names name ≡ Err why → (add_name s at name ino ≡ Err why) × (why ≡ no.TooBig 2048)
-    too_big new why answer = elim (shape m s stands at d there) [
-      | inl none ↦ absurd (let e : ◌≡◌ {A = Result Bool Refusal} (Err why) (Ok false) = empty_by d name new (Err why) answer none in cc)
-      | inr one ↦
-          let p = fits_false (fits 1020 (5 + length name) one.1) why (fits_by d name new (Err why) answer one.0 one.1 one.2) in
-          (full_is one.0 one.1 one.2 p.0 ∙ ap (λ (w : Refusal). Err w) (sym p.1), p.1)
-    ]
-
-    pub filled_by_answer : room_for d.names name ≡ Ok true → is_name name ≡ true → inode_of d.names name ≡ None → ino < 128 * m.inodes.units → directory_of k at ≡ Some (mine.with_name entry d)
-        → ((n : ℕ) → n ≢ at → directory_of k n ≡ directory_of m n) → k.inodes ≡ m.inodes → k.free ≡ m.free → k.first ≡ m.first → v ≡ record t { directories = t.directories ++ at ∷ [] } → IsEdited base (add_name s at name ino) k v
-    filled_by_answer answer legal new low here other inodes free first touched = elim (shape m s stands at d there) [
-      | inl none ↦ absurd (let e : ◌≡◌ {A = Result Bool Refusal} (Ok true) (Ok false) = empty_by d name new (Ok true) answer none in cc)
-      | inr one ↦ filled_gone one.0 one.1 one.2 (fits_true (fits 1020 (5 + length name) one.1) (fits_by d name new (Ok true) answer one.0 one.1 one.2)) legal new low here other inodes free first touched
-    ]
-
-    -- ---- in a new block
-
-    pub no_block_yet : inode_of d.names name ≡ None → room_for d.names name ≡ Ok false → d ≡ empty_directory
-    no_block_yet new answer = elim (shape m s stands at d there) [
-      | inl none ↦ none
-      | inr one ↦ absurd (never_false (fits 1020 (5 + length name) one.1) (fits_by d name new (Ok false) answer one.0 one.1 one.2))
-    ]
-
-    module _ (none : d ≡ empty_directory) where
-      old_none : blocks_at s.layout at ≡ []
-      old_none = blocks_here m s stands at (Some d) there ∙ ap (λ (x : DirectoryValue). blocks_in (Some x)) none
-
-      eight : s.tree.tunables.initial_extent_size ≡ 8
-      eight = ap (λ (x : Tree). x.tunables.initial_extent_size) gone.laid_out.rest
-
-      new_is : (o : Option ℕ) → page_place (volume s.layout) (is_free s.layout) None 8 ≡ o → new_block s.layout s.tree.tunables.initial_extent_size [] ≡ o
-      unfolding new_block
-      new_is o is = ap (page_place (volume s.layout) (is_free s.layout) None) eight ∙ is
-
-      per_unit : m.free.per_unit ≤ 4095
-      per_unit = let e : m.free.per_unit ≡ 4063 = gone.state.per_unit in omega arith
-
-      from_first : m.free.first ≡ (volume s.layout).first
-      from_first = gone.state.free_first ∙ gone.state.first
-
-      all_units : m.free.units ≡ (volume s.layout).units
-      all_units = gone.state.free_units ∙ sym gone.state.units
-
-      pub no_space : free_blocks m.free ≡ 0 → add_name s at name ino ≡ Err (no.NoSpace 1 0)
-      no_space full =
-          let is = new_is None (none_placed m.free (volume s.layout) (is_free s.layout) gone.state.free from_first all_units per_unit None 8 (omega arith) full) in
-          refused_by (no.NoSpace 1 0)
-          (ap (λ (x : List DirectoryBlock). filled_or_new s.layout s.tree.tunables.initial_extent_size at x entry (with_entry x entry)) old_none ∙ new_first s.layout s.tree.tunables.initial_extent_size at entry gone.state.limit None is)
-
-      module _ (b : ℕ) (goes : IsPlaced m.free None (Some 8) b) (was_free : is_free_block m.free b ≡ true) where
-        abbrev fresh : DirectoryBlock
-        fresh = record { block = b; entries = entry ∷ [] }
-
-        abbrev after : State
-        after = named_state name ino fresh
-
-        placed_is : add_name s at name ino ≡ Ok after
-        placed_is =
-            let is = new_is (Some b) (Placing.placed m.free (volume s.layout) (is_free s.layout) gone.state.free from_first all_units per_unit None 8 b (omega arith) goes) in
-            named_by (with_blocks s.layout at (fresh ∷ []))
-            (ap (λ (x : List DirectoryBlock). filled_or_new s.layout s.tree.tunables.initial_extent_size at x entry (with_entry x entry)) old_none ∙ new_first s.layout s.tree.tunables.initial_extent_size at entry gone.state.limit (Some b) is)
-
-        has : HasBlock after.layout at b
-        has = ap (λ (x : List DirectoryBlock). among (block_numbers x) b) (with_here s.layout at (fresh ∷ [])) ∙ or_left (b == b) false (eq-eqb b b refl)
-
-        others_as_they_were : (q : ℕ) → q ≢ b → (i : ℕ) → among (block_numbers (blocks_at after.layout i)) q ≡ among (block_numbers (blocks_at s.layout i)) q
-        others_as_they_were q ne i = elim (cases_eq i at) [
-          | inl here ↦ subst (λ (n : ℕ). among (block_numbers (blocks_at after.layout n)) q ≡ among (block_numbers (blocks_at s.layout n)) q) (sym here)
-              (ap (λ (x : List DirectoryBlock). among (block_numbers x) q) (with_here s.layout at (fresh ∷ [])) ∙ or_from (q == b) false (ne_eqb q b ne) refl
-              ∙ sym (ap (λ (x : List DirectoryBlock). among (block_numbers x) q) old_none))
-          | inr other ↦ ap (λ (x : List DirectoryBlock). among (block_numbers x) q) (with_other s.layout at (fresh ∷ []) i other)
-        ]
-
-        free_after : FreeAfter m.free (with_bit m.free b false) after.layout
-        free_after = record {
-          free = λ q. elim (cases_eq q b) [
-            | inl here ↦ subst (λ (x : ℕ). is_free_block (with_bit m.free b false) x ≡ is_free after.layout x) (sym here)
-                (taken_here m.free b ∙ sym (free_is after.layout b ∙ and_right _ _ (and_left _ _ (claimed after.layout b (128 * s.layout.units) at own.high has))))
-            | inr other ↦ taken_other m.free b q (data_low m.free b (free_data m.free b was_free)) other ∙ gone.state.free q ∙ sym (same_free s.layout after.layout q refl refl (others_as_they_were q other) refl)
-          ];
-          pending = gone.state.pending;
-          units = refl;
-          first = refl;
-          per_unit = refl;
-          bar = refl;
-          bits = length-set m.free.free (b - m.free.first) false;
-          places = refl;
-        }
-
-        pub placed_gone : is_name name ≡ true → inode_of d.names name ≡ None → ino < 128 * m.inodes.units → directory_of k at ≡ Some (mine.with_block entry b d) → ((n : ℕ) → n ≢ at → directory_of k n ≡ directory_of m n)
-            → k.inodes ≡ with_change m.inodes at (λ i. record i { size = 1024 }) → k.free ≡ with_bit m.free b false → k.first ≡ m.first → v ≡ joined t (blocks_touched at ((b - m.first) / 4096 ∷ [])) → IsEdited base (add_name s at name ino) k v
-        placed_gone legal new low here other inodes free first touched =
-            let i : Inode = record (inode_of_node [] (IsDirectory own.tree)) { size = 1024 } in
-            let set : k.inodes ≡ with_inode m.inodes at i =
-            inodes ∙ change_at m.inodes at (λ x. record x { size = 1024 }) (inode_of_node (blocks_at s.layout at) (IsDirectory own.tree)) own.inode_there in
-            let value : directory_of k at ≡ Some (one_block b (entry ∷ [])) = here ∙ ap (λ (x : DirectoryValue). Some (mine.with_block entry b x)) none in
-            let state : IsStateOf k after =
-            edited m k s after at gone.state (set_change m k at i set other first) (named_change fresh) (named_here b (entry ∷ []) 0 (set_here m k at i set) value)
-            (subst (λ (f : FreeMapView). FreeAfter m.free f after.layout) (sym free) free_after) in
-            let counts : (length (blocks_at after.layout at) == length (blocks_at s.layout at)) ≡ false = rw (with_here s.layout at (fresh ∷ []), old_none) refl in
-            let units : units_of after at ≡ (b - m.first) / 4096 ∷ [] =
-            ap (λ (x : List DirectoryBlock). map (unit_of (volume after.layout)) (block_numbers x)) (with_here s.layout at (fresh ∷ [])) ∙ ap (λ (n : ℕ). (b - n) / 4096 ∷ []) (sym gone.state.first) in
-            let touches : IsTouched s after (blocks_touched at ((b - m.first) / 4096 ∷ [])) =
-            subst (λ (x : Touched). IsTouched s after x) (ap (λ (c : Bool). cond c (entries_touched at) (blocks_touched at (units_of after at))) counts ∙ ap (blocks_touched at) units)
-            (laws.added_touches s after at ino name gone.laid_out placed_is) in
-            subst (λ (r : Maybe State). IsEdited base r k v) (sym placed_is)
-            (next_gone laws base s after m k t (blocks_touched at ((b - m.first) / 4096 ∷ [])) v gone state (laid_out_named fresh legal new low placed_is) touches touched)
+    pub too_big : inode_of d.names name ≡ None → (why : Refusal) → place_answer d.names name ≡ Err why → (add_name s at name ino ≡ Err why) × (why ≡ no.TooBig (1024 * (length d.names.blocks + 1)))
+    too_big new why answer =
+        let big = answered_big d own.shape name ino new why answer in
+        let full = no_room d own.shape name ino new big.1 in
+        let same : length (blocks_at s.layout at) ≡ length d.names.blocks = ap length old_blocks ∙ length_placed old_pages d.names.blocks own.shape.same_count in
+        let limit : s.layout.directory_limit ≡ 64 = gone.state.limit in
+        let most : nat_le (length (blocks_at s.layout at) + 1) s.layout.directory_limit ≡ false = lt-leb _ _ (omega (arith, full.1, same, limit)) in (
+          refused_by why (not_filled full.0 ∙ ap (λ (c : Bool). unless c (no.TooBig (1024 * (length (blocks_at s.layout at) + 1))) (layout.next_block s.layout first_extent at >>= (λ f. Ok (layout.with_last s.layout at named f)))) most
+              ∙ ap (λ (n : ℕ). Err (no.TooBig (1024 * (n + 1)))) same ∙ ap (λ (w : Refusal). Err w) (sym big.0)),
+          big.0,
+        )

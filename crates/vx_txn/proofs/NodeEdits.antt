@@ -1,41 +1,35 @@
 -- An inode more and an inode less.
-use Rattle.std.proofs.Common.{◌≡◌, ◌≢◌, ℕ, zero, suc, ◌+◌, ◌-◌, ◌*◌, ◌/◌, ◌%◌, ◌<◌, ◌≤◌, Bool, true, false, cond, not, ◌&&◌, List, [], ◌∷◌, ◌++◌, map, length, Option, Some, None, Ok, Err, refl, sym, ◌∙◌, ap, subst, arith, inl, inr, length-set}
-use Rattle.std.specs.Prelude.{◌==◌, ◌⊎◌, Result, nat_le, nat_lt, is_none, is_some}
+use Rattle.std.proofs.Common.{◌≡◌, ◌≢◌, ℕ, zero, suc, ◌+◌, ◌-◌, ◌*◌, ◌<◌, ◌≤◌, Bool, true, false, cond, List, [], ◌∷◌, ◌++◌, length, Option, Some, None, Ok, Err, refl, sym, ◌∙◌, ap, subst, arith, inl, inr}
+use Rattle.std.specs.Prelude.{◌⊎◌, Result, is_some}
 use Rattle.std.specs.Option.{option_map}
 use Rattle.std.specs.FinMap as map
-use Rattle.std.proofs.lemmas.Bool.{cases_Bool, cases_eq, cases_lt, eqb-true, eq-eqb, ne_eqb, and_left, and_right, and_parts, and_from, or_left, or_from, ltb-true, lt-ltb, le-ltb, leb-true}
-use Rattle.std.proofs.lemmas.Bool.Decides.{nat_tests}
-use Rattle.vx_alloc.specs.FreeMaps.{FreeMapView, place_of, with_place, is_used as is_used_block, is_free as is_free_block, is_data as is_data_block}
+use Rattle.std.proofs.lemmas.Bool.{cases_Bool, cases_lt, eqb-true}
+use Rattle.std.proofs.lemmas.Option.{none-some}
 use Rattle.vx_base.specs.Rules.{lowest_absent, lowest_unused}
 use Rattle.vx_base.proofs.Maps.{at_key, at_other, taken_back}
 use Rattle.vx_base.specs.declared.inode.Inode.{Inode}
 use Rattle.vx_base.specs.declared.inode.InodeValue.{InodeValue}
 use Rattle.vx_base.specs.declared.kind.FileKind.{FileKind}
 use Rattle.vx_base.specs.declared.kind.FileKind.TheVariants as kind
-use Rattle.vx_dir.specs.Sizes.{Entries}
-use Rattle.vx_inode.proofs.Counts.{removed, kept, len_more, len_within}
+use Rattle.vx_inode.proofs.Counts.{len_more, len_within}
 use Rattle.vx_inode.specs.Tables.{Inodes, Table, inode_at, is_used, with_inode, without_inode, new_inode, is_full, make_answer}
 use Rattle.vx_inode.specs.declared.table.MakeRefusal.{MakeRefusal}
 use Rattle.vx_inode.specs.declared.table.MakeRefusal.TheVariants as make
-use Rattle.vx_layout.specs.Places.{Volume, is_data}
+use Rattle.vx_model.specs.Contents.{Held, settled_of}
 use Rattle.vx_model.specs.EditLaws.{EditLaws}
-use Rattle.vx_model.specs.Edits.{with_nodes, set_node, drop_node}
-use Rattle.vx_model.specs.Images.{among}
-use Rattle.vx_model.specs.LaidOut.{IsHeld, HasBlock, IsLaidOut, AreBlocks}
-use Rattle.vx_model.specs.Layout.{Layout, DirectoryBlock, volume, blocks_at, block_numbers, with_blocks, is_free, freed, pended}
+use Rattle.vx_model.specs.Edits.{set_node}
+use Rattle.vx_model.specs.LaidOut.{IsHeld, HasNothing, IsLaidOut}
+use Rattle.vx_model.specs.Layout.{Layout, blocks_at, maps_at}
 use Rattle.vx_model.specs.State.{State}
-use Rattle.vx_model.specs.Touching.{Touched, IsTouched, joined, inode_touched, blocks_touched, unit_of, units_of}
-use Rattle.vx_model.specs.Tree.{Node, Nodes, File, IsFile, IsDirectory, no_attrs, new_directory}
+use Rattle.vx_model.specs.Touching.{Touched, inode_touched}
+use Rattle.vx_model.specs.Tree.{Node, Nodes, no_attrs}
 use Rattle.vx_txn.specs.Calls.{HasGone}
-use Rattle.vx_txn.specs.Directories.{DirectoryValue, blocks_in, last_place}
-use Rattle.vx_txn.specs.Edits.{IsFullOf, new_node, empty_directory, one_block, new_directory_at, with_pended, unit_list}
+use Rattle.vx_txn.specs.Directories.{DirectoryValue, IsDirectory, blocks_in, maps_in}
+use Rattle.vx_txn.specs.Edits.{IsFullOf, new_node, empty_directory, new_directory_at}
 use Rattle.vx_txn.specs.Metas.{HasDirectory, directory_of, IsStateOf, Stands}
 use Rattle.vx_txn.specs.declared.meta.Meta.{Meta}
-use Rattle.vx_txn.proofs.Changes.{MetaChange, StateChange, ChangedAt, FreeAfter, edited, free_kept, set_state, set_here, set_change, touched_inode, next_gone, stands_of}
-use Rattle.vx_txn.proofs.Claims.{same_free, free_is, claimed}
-use Rattle.vx_txn.proofs.FreeLaws.{data_low, data_high, data_place, waits_here, waits_other}
-use Rattle.vx_txn.proofs.NameEdits.{with_here, with_other, same_among}
-use Rattle.vx_txn.proofs.StateLaws.{inode_of_node, inode_of_option, held, none_here, blocks_here, shape}
+use Rattle.vx_txn.proofs.Changes.{set_state, set_here, set_change, touched_inode, next_gone, stands_of}
+use Rattle.vx_txn.proofs.StateLaws.{inode_of_node, inode_of_option, held, none_here, blocks_here, maps_here}
 
 -- ---- the lowest unused number
 
@@ -86,7 +80,7 @@ held_high l n (Some node) h le = absurd (let high : n < 128 * l.units = h.2 in o
 
 module _ (m : Meta) (s : State) (is : Stands m s) where
   unused_by : (q : ℕ) → map.get s.tree.nodes q ≡ None → inode_at m.inodes q ≡ None
-  unused_by q none = held m s is q ∙ ap (inode_of_option (blocks_at s.layout q)) none
+  unused_by q none = held m s is q ∙ ap (inode_of_option (settled_of s.layout q)) none
 
   below_2 : (q : ℕ) → q < 2 → inode_at m.inodes q ≡ None
   below_2 q lt = unused_by q (held_low s.layout q (map.get s.tree.nodes q) (is.laid_out.nodes q) lt)
@@ -143,19 +137,31 @@ no_directory_by (Some d) has = absurd has
 pub no_directory : (m : Meta) (s : State) → IsStateOf m s → (n : ℕ) → inode_at m.inodes n ≡ None → directory_of m n ≡ None
 no_directory m s is n none = no_directory_by (directory_of m n) (subst (λ (i : Option Inode). HasDirectory i (directory_of m n)) none (is.kinds n))
 
-new_is : (k : FileKind) (mode : ℕ) → new_inode k mode ≡ inode_of_node [] (new_node k mode)
-new_is kind.File mode = refl
-new_is kind.Directory mode = refl
+new_is : (h : Held) (k : FileKind) (mode : ℕ) → h.size ≡ 0 → new_inode k mode ≡ inode_of_node h (new_node k mode)
+new_is h kind.File mode none = ap (λ (n : ℕ). record (new_inode kind.File mode) { size = n }) (sym none)
+new_is h kind.Directory mode none = ap (λ (n : ℕ). record (new_inode kind.Directory mode) { size = n }) (sym none)
 
 new_blocks : (k : FileKind) → blocks_in (new_directory_at k None) ≡ []
 new_blocks kind.File = refl
 new_blocks kind.Directory = refl
 
-new_kind : (k : FileKind) (mode : ℕ) → HasDirectory (Some (inode_of_node [] (new_node k mode))) (new_directory_at k None)
-new_kind kind.File mode = refl
-new_kind kind.Directory mode = (refl, record { block_size = refl; limit = refl; same_count = refl })
+new_maps : (k : FileKind) → maps_in (new_directory_at k None) ≡ []
+new_maps kind.File = refl
+new_maps kind.Directory = refl
 
-new_laid_out : (laws : EditLaws) (s : State) (n mode : ℕ) (k : FileKind) → IsLaidOut s → mode ≤ 4095 → 3 ≤ n → n < 128 * s.layout.units → map.get s.tree.nodes n ≡ None → blocks_at s.layout n ≡ [] → IsLaidOut (set_node s n (new_node k mode))
+pub empty_shape : IsDirectory empty_directory
+empty_shape = record { block_size = refl; limit = refl; settled = refl; size = refl; same_count = refl; pages = refl }
+
+new_kind : (h : Held) (k : FileKind) (mode : ℕ) → HasDirectory (Some (inode_of_node h (new_node k mode))) (new_directory_at k None)
+new_kind h kind.File mode = refl
+new_kind h kind.Directory mode = (refl, empty_shape)
+
+-- where there is no node, nothing stands on the device
+nothing_by : (l : Layout) (n : ℕ) (o : Option Node) → IsHeld l n o → o ≡ None → HasNothing l n
+nothing_by l n None held none = held
+nothing_by l n (Some node) held none = absurd (none-some node (sym none))
+
+new_laid_out : (laws : EditLaws) (s : State) (n mode : ℕ) (k : FileKind) → IsLaidOut s → mode ≤ 4095 → 3 ≤ n → n < 128 * s.layout.units → map.get s.tree.nodes n ≡ None → HasNothing s.layout n → IsLaidOut (set_node s n (new_node k mode))
 new_laid_out laws s n mode kind.File laid low from high none blocks =
     laws.file_set s n (record { mode = mode; nlink = 1; attrs = no_attrs; bytes = [] }) laid (record { mode = low; some_links = omega arith; few_links = omega arith; attrs = refl; bytes = refl }) (λ e. absurd (omega arith)) (omega arith) high blocks
 new_laid_out laws s n mode kind.Directory laid low from high none blocks = laws.directory_set s n mode laid low (omega arith) high none
@@ -168,16 +174,21 @@ module _ (laws : EditLaws) (base s : State) (m k : Meta) (t v : Touched) (gone :
       let stands = stands_of base s m t gone in
       let node : Node = new_node f mode in
       let none : directory_of m at ≡ None = no_directory m s gone.state at unused in
+      let absent = none_here m s stands at unused in
+      let nothing = nothing_by s.layout at (map.get s.tree.nodes at) (gone.laid_out.nodes at) absent in
       let blocks : blocks_at s.layout at ≡ [] = blocks_here m s stands at None none in
-      let i : Inode = inode_of_node [] node in
-      let set : k.inodes ≡ with_inode m.inodes at i = inodes ∙ ap (with_inode m.inodes at) (new_is f mode) in
+      let maps : maps_at s.layout at ≡ [] = maps_here m s stands at None none in
+      let h : Held = settled_of s.layout at in
+      let size : h.size ≡ 0 = (λ i. 1024 * length (blocks i) + (nothing.space i).size) in
+      let i : Inode = inode_of_node h node in
+      let set : k.inodes ≡ with_inode m.inodes at i = inodes ∙ ap (with_inode m.inodes at) (new_is h f mode size) in
       let value : directory_of k at ≡ new_directory_at f None = here ∙ ap (new_directory_at f) none in
       let there : inode_at k.inodes at ≡ Some i = set_here m k at i set in
       next_gone laws base s (set_node s at node) m k t (inode_touched at) v gone
-      (set_state m k s at node gone.state (set_change m k at i set other first) free (there ∙ ap (λ (x : List DirectoryBlock). Some (inode_of_node x node)) (sym blocks))
-      (blocks ∙ sym (ap blocks_in value ∙ new_blocks f))
-      (subst (λ (x : Option Inode). HasDirectory x (directory_of k at)) (sym there) (subst (λ (o : Option DirectoryValue). HasDirectory (Some i) o) (sym value) (new_kind f mode))))
-      (new_laid_out laws s at mode f gone.laid_out low from (subst (λ (u : ℕ). at < 128 * u) (sym gone.state.units) high) (none_here m s stands at unused) blocks)
+      (set_state m k s at node gone.state (set_change m k at i set other first) free there
+      (blocks ∙ sym (ap blocks_in value ∙ new_blocks f)) (maps ∙ sym (ap maps_in value ∙ new_maps f))
+      (subst (λ (x : Option Inode). HasDirectory x (directory_of k at)) (sym there) (subst (λ (o : Option DirectoryValue). HasDirectory (Some i) o) (sym value) (new_kind h f mode))))
+      (new_laid_out laws s at mode f gone.laid_out low from (subst (λ (u : ℕ). at < 128 * u) (sym gone.state.units) high) absent nothing)
       (laws.set_touches s at node) (touched ∙ touched_inode t at)
 
 -- an inode that is taken back

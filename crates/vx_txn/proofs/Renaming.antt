@@ -24,12 +24,13 @@ use Rattle.vx_model.specs.Paths.{PathEnd, path_end, path_end_from}
 use Rattle.vx_model.specs.Moving.{Move, enter, cleared, replace_by, replace_file, replace_directory, move_onto, move_into, move_node, move_to, move_entry, move_ends, rename_along, is_below}
 use Rattle.vx_model.specs.LaidOut.{IsLaidOut}
 use Rattle.vx_txn.specs.declared.meta.Meta.{Meta}
-use Rattle.vx_txn.specs.Directories.{DirectoryValue}
-use Rattle.vx_txn.specs.Metas.{IsUnchanged, directory_of}
+use Rattle.vx_dir.specs.Directories.{Directory as Names}
+use Rattle.vx_txn.specs.Directories.{DirectoryValue, without}
+use Rattle.vx_txn.specs.Metas.{IsUnchanged, Stands, directory_of}
 use Rattle.vx_txn.specs.Removals.{unnamed, IsRootUsed, entry_of}
-use Rattle.vx_txn.specs.Renames.{kind_of, replaceable, put_over, move_along}
-use Rattle.vx_txn.proofs.Lookups.{IsWithout, IsStep, removed_here, removed_other, node_directory, directory_node, file_node, held_file, apart, some_name, step_of, end_of, entry_found, entry_refused}
-use Rattle.vx_txn.proofs.Moves.{added_dropped, added_unlinked, no_further_block}
+use Rattle.vx_txn.specs.Renames.{IsNamesOf, kind_of, replaceable, put_over, move_along}
+use Rattle.vx_txn.proofs.Lookups.{IsWithout, IsStep, directory_here, removed_here, removed_other, node_directory, directory_node, file_node, held_file, apart, some_name, step_of, end_of, entry_found, entry_refused}
+use Rattle.vx_txn.proofs.Moves.{added_dropped, added_unlinked, room_still}
 
 abbrev allowed : Maybe (Unit {0})
 allowed = Ok tt
@@ -74,9 +75,9 @@ removed_name s n name d found = record {
 pub added_unnamed : (s : State) (from : ℕ) (old : FileName) (at : ℕ) (name : FileName) (ino place t : ℕ) (node : Node) (d : Directory) → IsLaidOut s → at ≢ t → map.get s.tree.nodes at ≡ Some (IsDirectory d) → map.get d.entries name ≡ Some t
     → add_name (unnamed (remove_name (remove_name s from old) at name) place t node) at name ino ≡ (add_name (remove_name (remove_name s from old) at name) at name ino >>= (λ added. Ok (unnamed added place t node)))
 added_unnamed s from old at name ino place t (IsFile f) d laid ne found has =
-    added_unlinked (remove_name (remove_name s from old) at name) at name ino place t f ne (no_further_block s at d name t laid found has from old)
+    added_unlinked (remove_name (remove_name s from old) at name) at name ino place t f ne (room_still s at d name t laid found has from old ino)
 added_unnamed s from old at name ino place t (IsDirectory e) d laid ne found has =
-    added_dropped (remove_name (remove_name s from old) at name) at name ino place t ne (no_further_block s at d name t laid found has from old)
+    added_dropped (remove_name (remove_name s from old) at name) at name ino place t ne (room_still s at d name t laid found has from old ino)
 
 -- what may be replaced
 pub record IsReplaced (s : State) (place : ℕ) (m : Move) (t : ℕ) (node : Node) : Type 0 where
@@ -150,6 +151,10 @@ not_replaced_root s kind.Directory t laid used may = λ same.
 
 -- ---- what is put back
 
+-- the directory of a step
+pub found_there : (m : Meta) (s : State) → Stands m s → (at : ℕ) (name : FileName) (ino : ℕ) → step_to s.tree.nodes at name ≡ Ok ino → (d : DirectoryValue) × (directory_of m at ≡ Some d)
+found_there m s stands at name ino step = let t = step_of s.tree.nodes at name ino step in directory_here m s stands at t.directory t.found
+
 -- nothing but a directory has changed
 pub record IsChangedAt (m k : Meta) (a : ℕ) : Type 0 where
   pub inodes : k.inodes ≡ m.inodes
@@ -157,37 +162,78 @@ pub record IsChangedAt (m k : Meta) (a : ℕ) : Type 0 where
   pub free : k.free ≡ m.free
   pub first : k.first ≡ m.first
 
-pub back_once : (m a b k : Meta) (at : ℕ) (before : DirectoryValue) → IsChangedAt m a at → IsUnchanged a b → IsChangedAt b k at → directory_of m at ≡ Some before → directory_of k at ≡ Some before → IsUnchanged m k
-back_once m a b k at before removed same back was here = record {
+-- what stands at the number is what stood there
+pub back_once : (m a b k : Meta) (at : ℕ) → IsChangedAt m a at → IsUnchanged a b → IsChangedAt b k at → directory_of k at ≡ directory_of m at → IsUnchanged m k
+back_once m a b k at removed same back here = record {
   inodes = back.inodes ∙ same.inodes ∙ removed.inodes;
   directories = λ n. elim (cases_eq n at) [
-    | inl there ↦ subst (λ (x : ℕ). directory_of k x ≡ directory_of m x) (sym there) (here ∙ sym was)
+    | inl there ↦ subst (λ (x : ℕ). directory_of k x ≡ directory_of m x) (sym there) here
     | inr ne ↦ back.others n ne ∙ same.directories n ∙ removed.others n ne
   ];
   free = back.free ∙ same.free ∙ removed.free;
   first = back.first ∙ same.first ∙ removed.first;
 }
 
-pub back_twice : (m a b c d k : Meta) (from to : ℕ) (before_from before_to : DirectoryValue) → IsChangedAt m a from → IsChangedAt a b to → IsUnchanged b c → IsChangedAt c d to → IsChangedAt d k from
-    → directory_of m from ≡ Some before_from → directory_of m to ≡ Some before_to → directory_of d to ≡ Some before_to → directory_of k from ≡ Some before_from → IsUnchanged m k
-back_twice m a b c d k from to before_from before_to one two same three four was_from was_to here_to here_from = record {
+-- there is a directory still, with the same pages and map blocks
+pub record Keeps (m : Meta) (at : ℕ) (d : DirectoryValue) : Type 0 where
+  pub now : DirectoryValue
+  pub there : directory_of m at ≡ Some now
+  pub maps : now.maps ≡ d.maps
+
+pub keeps_own : (m : Meta) (at : ℕ) (d : DirectoryValue) → directory_of m at ≡ Some d → Keeps m at d
+keeps_own m at d there = record { now = d; there = there; maps = refl }
+
+pub keeps_removed : (m k : Meta) (at : ℕ) (name : FileName) (n : ℕ) (d : DirectoryValue) → ((e : DirectoryValue) → directory_of m at ≡ Some e → directory_of k at ≡ Some (without name e)) → ((q : ℕ) → q ≢ at → directory_of k q ≡ directory_of m q)
+    → Keeps m n d → Keeps k n d
+keeps_removed m k at name n d here others keeps = elim (cases_eq n at) [
+  | inl same ↦ record {
+    now = without name keeps.now;
+    there = ap (directory_of k) same ∙ here keeps.now (ap (directory_of m) (sym same) ∙ keeps.there);
+    maps = keeps.maps;
+  }
+  | inr other ↦ record { now = keeps.now; there = others n other ∙ keeps.there; maps = keeps.maps }
+]
+
+pub keeps_same : (m k : Meta) (n : ℕ) (d : DirectoryValue) → IsUnchanged m k → Keeps m n d → Keeps k n d
+keeps_same m k n d same keeps = record { now = keeps.now; there = same.directories n ∙ keeps.there; maps = keeps.maps }
+
+pub keeps_named : (m k : Meta) (at : ℕ) (names : Names) (n : ℕ) (d : DirectoryValue) → ((e : DirectoryValue) → directory_of m at ≡ Some e → directory_of k at ≡ Some (record e { names = names })) → ((q : ℕ) → q ≢ at → directory_of k q ≡ directory_of m q)
+    → Keeps m n d → Keeps k n d
+keeps_named m k at names n d here others keeps = elim (cases_eq n at) [
+  | inl same ↦ record {
+    now = record keeps.now { names = names };
+    there = ap (directory_of k) same ∙ here keeps.now (ap (directory_of m) (sym same) ∙ keeps.there);
+    maps = keeps.maps;
+  }
+  | inr other ↦ record { now = keeps.now; there = others n other ∙ keeps.there; maps = keeps.maps }
+]
+
+names_by : (o : Option DirectoryValue) (d : DirectoryValue) (before : Names) → IsNamesOf o before → o ≡ Some d → before ≡ d.names
+names_by None d before are is = absurd are
+names_by (Some e) d before are is = are ∙ ap (λ (x : DirectoryValue). x.names) (same_Some e d is)
+
+-- its names are put back
+pub names_back : (m b k : Meta) (at : ℕ) (d : DirectoryValue) (before : Names) → directory_of m at ≡ Some d → IsNamesOf (directory_of m at) before → Keeps b at d
+    → ((e : DirectoryValue) → directory_of b at ≡ Some e → directory_of k at ≡ Some (record e { names = before })) → directory_of k at ≡ directory_of m at
+names_back m b k at d before was are keeps back =
+    let names : before ≡ d.names = names_by (directory_of m at) d before are was in
+    back keeps.now keeps.there ∙ (λ i. Some (record { names = names i; maps = keeps.maps i })) ∙ sym was
+
+-- two directories, or one twice: the later names are put back first
+pub back_twice : (m a b c e k : Meta) (from to : ℕ) → IsChangedAt m a from → IsChangedAt a b to → IsUnchanged b c → IsChangedAt c e to → IsChangedAt e k from → directory_of k from ≡ directory_of m from
+    → (to ≢ from → directory_of e to ≡ directory_of m to) → IsUnchanged m k
+back_twice m a b c e k from to one two same three four here_from here_to = record {
   inodes = four.inodes ∙ three.inodes ∙ same.inodes ∙ two.inodes ∙ one.inodes;
   directories = λ n. elim (cases_eq n from) [
-    | inl there ↦ subst (λ (x : ℕ). directory_of k x ≡ directory_of m x) (sym there) (here_from ∙ sym was_from)
+    | inl there ↦ subst (λ (x : ℕ). directory_of k x ≡ directory_of m x) (sym there) here_from
     | inr not_from ↦ four.others n not_from ∙ elim (cases_eq n to) [
-      | inl there ↦ subst (λ (x : ℕ). directory_of d x ≡ directory_of m x) (sym there) (here_to ∙ sym was_to)
+      | inl there ↦ subst (λ (x : ℕ). directory_of e x ≡ directory_of m x) (sym there) (here_to (λ at. not_from (there ∙ at)))
       | inr not_to ↦ three.others n not_to ∙ same.directories n ∙ two.others n not_to ∙ one.others n not_from
     ]
   ];
   free = four.free ∙ three.free ∙ same.free ∙ two.free ∙ one.free;
   first = four.first ∙ three.first ∙ same.first ∙ two.first ∙ one.first;
 }
-
-pub there_still : (k b : Meta) (n at : ℕ) (old before : DirectoryValue) → directory_of k at ≡ Some before → ((q : ℕ) → q ≢ at → directory_of k q ≡ directory_of b q) → directory_of b n ≡ Some old → (d : DirectoryValue) × (directory_of k n ≡ Some d)
-there_still k b n at old before here others was = elim (cases_eq n at) [
-  | inl there ↦ (before, ap (directory_of k) there ∙ here)
-  | inr ne ↦ (old, others n ne ∙ was)
-]
 
 -- ---- what decides
 
@@ -226,6 +272,10 @@ directory_kind (Some (IsDirectory d)) is = record { directory = d; is = refl }
 -- another inode stands there
 pub onto : (s : State) (place : ℕ) (m : Move) (o : Option ℕ) (t : ℕ) → o ≡ Some t → (t == m.from.ino) ≡ false → move_onto s place m o ≡ replace_by s place m t m.node
 onto s place m o t has other = ap (move_onto s place m) has ∙ ap (λ (b : Bool). cond b (Ok (fine s)) (replace_by s place m t m.node)) other
+
+-- the inode itself stands there
+pub onto_itself : (s : State) (place : ℕ) (m : Move) (o : Option ℕ) (t : ℕ) → o ≡ Some t → (t == m.from.ino) ≡ true → move_onto s place m o ≡ Ok (fine s)
+onto_itself s place m o t has same = ap (move_onto s place m) has ∙ ap (λ (b : Bool). cond b (Ok (fine s)) (replace_by s place m t m.node)) same
 
 pub to_directory : (s : State) (place : ℕ) (below : Bool) (from : Entry) (name : FileName) (to : ℕ) (d : Directory) (o : Option Node) → directory_at s.tree.nodes to ≡ Ok d → map.get s.tree.nodes from.ino ≡ o
     → move_to s place below from name to ≡ (need o no.NoEnt >>= move_node s place below from to name d)

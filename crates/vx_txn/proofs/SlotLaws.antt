@@ -1,11 +1,11 @@
 -- What the directories are by number, after a change.
-use Rattle.std.proofs.Common.{◌≡◌, ◌≢◌, ℕ, zero, suc, ◌<◌, ◌≤◌, List, [], ◌∷◌, ◌++◌, length, Option, Some, None, Result, Ok, refl, sym, ◌∙◌, ap, arith, set, get_or}
+use Rattle.std.proofs.Common.{◌≡◌, ◌≢◌, ℕ, zero, suc, ◌<◌, ◌≤◌, List, [], ◌∷◌, ◌++◌, length, Option, Some, None, Result, Ok, refl, sym, ◌∙◌, ap, arith, set, get_or, subst}
 use Rattle.std.specs.Prelude.{OnOk}
 use Rattle.std.proofs.lemmas.Option.{same_Some, none-some}
 use Rattle.std.proofs.lemmas.Result.{on_ok_weaker}
 use Rattle.std.proofs.lemmas.List.{set-get_or}
 use Rattle.std.specs.declared.alloc.AllocError.{AllocError}
-use Rattle.vx_txn.specs.Directories.{DirectoryValue, directory_at, last_of}
+use Rattle.vx_txn.specs.Directories.{DirectoryValue, directory_at}
 
 abbrev pub Slots : Type 0
 Slots = List (Option DirectoryValue)
@@ -58,3 +58,14 @@ module _ (slots : Slots) (i : ℕ) where
   pub ok_here : (r : Result (Unit {0}) AllocError) (o : Option DirectoryValue) (old new : DirectoryValue) (f : DirectoryValue → DirectoryValue) → i < length slots → get_or slots i o ≡ Some old → OnOk r (new ≡ f old)
       → (d : DirectoryValue) → directory_at slots i ≡ Some d → OnOk r (directory_at (set slots i (Some new)) i ≡ Some (f d))
   ok_here r o old new f h e is d there = on_ok_weaker r (λ (p : new ≡ f old). here_set o old new f h e p d there) is
+
+  -- the directory there is changed, and something holds of it then
+  pub grown_here : {E : Type 0} (r : Result (Unit {0}) E) (P : DirectoryValue → DirectoryValue → Type 0) (Q : DirectoryValue → Option DirectoryValue → Type 0) → ((d new : DirectoryValue) → P d new → Q d (Some new))
+      → (o : Option DirectoryValue) (old new : DirectoryValue) → i < length slots → get_or slots i o ≡ Some old → OnOk r (P old new)
+      → (d : DirectoryValue) → directory_at slots i ≡ Some d → OnOk r (Q d (directory_at (set slots i (Some new)) i))
+  grown_here r P Q weaker o old new h e is d there =
+      on_ok_weaker r (λ (p : P old new).
+      subst (Q d) (sym (at_set slots i (Some new) h)) (weaker d new (subst (λ (x : DirectoryValue). P x new) (same_Some old d (sym (at_index slots i o h ∙ e) ∙ there)) p))) is
+
+  pub same_here : (o : Option DirectoryValue) (old : DirectoryValue) → i < length slots → get_or slots i o ≡ Some old → (d : DirectoryValue) → directory_at slots i ≡ Some d → old ≡ d
+  same_here o old h e d there = same_Some old d (sym (at_index slots i o h ∙ e) ∙ there)

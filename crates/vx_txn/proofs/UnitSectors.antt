@@ -7,11 +7,11 @@ use Rattle.vx_layout.specs.Bits.{bit_value, bit_byte, bits_from, bits_bytes}
 use Rattle.vx_layout.specs.Inodes.{slot_bytes}
 use Rattle.vx_layout.specs.Places.{Volume, IsVolume, unit_block, bitmap_sector, pair_sector, inode_sector}
 use Rattle.vx_model.specs.Contents.{inode_value, parsed_of}
-use Rattle.vx_model.specs.Images.{Parsed, content_at, used_in}
+use Rattle.vx_model.specs.Images.{Parsed, content_at}
 use Rattle.vx_model.specs.Layout.{Layout, Claim, volume, claim_of}
 use Rattle.vx_model.specs.State.{State}
 use Rattle.vx_txn.specs.Metas.{Stands}
-use Rattle.vx_txn.specs.Staged.{IsRight}
+use Rattle.vx_txn.specs.Staged.{IsRight, is_in_use}
 use Rattle.vx_txn.specs.declared.meta.Meta.{Meta}
 
 -- ---- the volume
@@ -59,14 +59,18 @@ sector_same f g same = bytes_same f g 512 0 (λ j lt. same j (omega arith))
 low_bit : (j : ℕ) (b : Bool) → j < 33 → true ≡ (nat_lt j 33 || b)
 low_bit j b lt = ap (λ t. t || b) (sym (lt-ltb j 33 lt))
 
-high_bit : (j : ℕ) (o : Option Claim) → 33 ≤ j → is_some o ≡ (nat_lt j 33 || is_some (option_map (λ (c : Claim). c.ino) o))
-high_bit j None le = ap (λ t. t || false) (sym (le-ltb j 33 le))
-high_bit j (Some c) le = ap (λ t. t || true) (sym (le-ltb j 33 le))
+high_bit : (j : ℕ) (o : Option Claim) → 33 ≤ j → is_some o ≡ (nat_lt j 33 || is_some o)
+high_bit j o le = ap (λ t. t || is_some o) (sym (le-ltb j 33 le))
 
-pub bitmap_right : (bitmap : (v : Volume) (p : Parsed) (u : ℕ) → IsVolume v → u < v.units → content_at v p (bitmap_sector v u) ≡ Some (bits_bytes (used_in v p u)))
-    → (s : State) (unit at : ℕ) (x : List ℕ) → unit < s.layout.units → at ≡ bitmap_sector (volume s.layout) unit → x ≡ bits_bytes (used_in (volume s.layout) (parsed_of s) unit) → IsRight s (at, x)
-bitmap_right bitmap s unit at x lt place bytes =
-    subst (λ (t : ℕ). IsRight s (t, x)) (sym place) (bitmap (volume s.layout) (parsed_of s) unit (is_volume s.layout) lt ∙ ap Some (sym bytes))
+same_use : (l : Layout) (u j : ℕ) (o : Option Claim) → (nat_lt j 33 || is_some o) ≡ (nat_lt j 33 || is_some (option_map (λ (c : Claim). c.ino) o))
+same_use l u j None = refl
+same_use l u j (Some c) = refl
+
+pub bitmap_right : (s : State) (unit at : ℕ) (x : List ℕ) → content_at (volume s.layout) (parsed_of s) (bitmap_sector (volume s.layout) unit) ≡ Some (bits_bytes (λ j. nat_lt j 33 || is_some ((parsed_of s).claims (unit_block (volume s.layout) unit + j))))
+    → at ≡ bitmap_sector (volume s.layout) unit → x ≡ bits_bytes (is_in_use s.layout unit) → IsRight s (at, x)
+bitmap_right s unit at x content place bytes =
+    subst (λ (t : ℕ). IsRight s (t, x)) (sym place)
+    (content ∙ ap Some (sector_same _ _ (λ j lt. sym (same_use s.layout unit j (claim_of s.layout (unit_block (volume s.layout) unit + j)))) ∙ sym bytes))
 
 -- the bits of the first `end` blocks of the unit that starts at a block
 pub record AreBits (m : Meta) (start end : ℕ) (bits : List Bool) : Type 0 where
@@ -89,13 +93,13 @@ bit_more m start j bits b are high lt is = record {
 }
 
 pub bits_are : (m : Meta) (s : State) (unit start end : ℕ) (bits : List Bool) → Stands m s → start ≡ unit_block (volume s.layout) unit → end ≡ 4096 → AreBits m start end bits
-    → bits_bytes (λ j. get_or bits j false) ≡ bits_bytes (used_in (volume s.layout) (parsed_of s) unit)
+    → bits_bytes (λ j. get_or bits j false) ≡ bits_bytes (is_in_use s.layout unit)
 bits_are m s unit start end bits stands at last are =
     let v : Volume = volume s.layout in
-    sector_same (λ j. get_or bits j false) (used_in v (parsed_of s) unit) (λ j lt. elim (cases_lt j 33) [
+    sector_same (λ j. get_or bits j false) (is_in_use s.layout unit) (λ j lt. elim (cases_lt j 33) [
       | inr high ↦
           are.claimed s stands j high (omega (arith, lt, last))
           ∙ ap (λ (b : ℕ). is_some (claim_of s.layout (b + j))) at
           ∙ high_bit j (claim_of s.layout (unit_block v unit + j)) high
-      | inl low ↦ are.low j low ∙ low_bit j (is_some (option_map (λ (c : Claim). c.ino) (claim_of s.layout (unit_block v unit + j)))) low
+      | inl low ↦ are.low j low ∙ low_bit j (is_some (claim_of s.layout (unit_block v unit + j))) low
     ])

@@ -32,6 +32,6 @@ pub record IsDone (s : State) (done : Done) (m : Meta) (t : Touched) (reply : Re
 abbrev pub IsSettled : State → Maybe Done → Meta → Touched → Reply → Type 0
 IsSettled s chain m t reply = IsDone s (settled s chain) m t reply
 
--- the most of one kind that is touched
+-- the most that is touched of one kind but units
 abbrev pub most : Touched → ℕ
-most t = max (length t.inodes) (max (length t.directories) (length t.units))
+most t = max (length t.inodes) (max (length t.blocks) (length t.maps))

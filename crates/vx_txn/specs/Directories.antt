@@ -1,31 +1,44 @@
 -- A directory in memory.
-use Rattle.std.specs.Prelude.{◌≡◌, ℕ, zero, suc, ◌-◌, slice_get, List, [], ◌∷◌, ◌++◌, length, map, filter, Option, Some, None}
+use Rattle.std.specs.Prelude.{◌≡◌, ℕ, zero, suc, List, [], ◌∷◌, length, map, filter, Option, Some, None}
 use Rattle.vx_base.specs.Paths.{FileName}
 use Rattle.vx_base.specs.declared.inode.DirEntry.{DirEntry}
 use Rattle.vx_dir.specs.Sizes.{Entries}
 use Rattle.vx_dir.specs.Directories.{Directory, inode_of, with_entry}
-use Rattle.vx_model.specs.Layout.{DirectoryBlock, other_name}
+use Rattle.vx_extents.specs.Extents.{Mapped}
+use Rattle.vx_filemaps.specs.Files.{FileView}
+use Rattle.vx_model.specs.Layout.{DirectoryBlock, other_name, pages_from}
 
--- the entries of the blocks, and the blocks' numbers
+-- the entries of the blocks, and the pages that the blocks are, with the map blocks
 pub record DirectoryValue : Type 0 where
   pub names : Directory
-  pub at : List ℕ
+  pub maps : FileView
 
--- each block's number beside its entries
-abbrev pub placed : List ℕ → List Entries → List DirectoryBlock
+-- each page's block beside its entries
+abbrev pub placed : List Mapped → List Entries → List DirectoryBlock
 placed [] blocks = []
-placed (b ∷ at) [] = []
-placed (b ∷ at) (entries ∷ blocks) = record { block = b; entries = entries } ∷ placed at blocks
+placed (m ∷ pages) [] = []
+placed (m ∷ pages) (entries ∷ blocks) = record { block = m.block; entries = entries } ∷ placed pages blocks
 
 abbrev pub blocks_in : Option DirectoryValue → List DirectoryBlock
 blocks_in None = []
-blocks_in (Some d) = placed d.at d.names.blocks
+blocks_in (Some d) = placed d.maps.space.present d.names.blocks
 
--- one block at most so far, each with a place
+abbrev pub maps_in : Option DirectoryValue → List ℕ
+maps_in None = []
+maps_in (Some d) = d.maps.maps
+
+abbrev pub block_count : Option DirectoryValue → ℕ
+block_count None = 0
+block_count (Some d) = length d.names.blocks
+
+-- up to 64 blocks, each a page; all pages are on the device, and none is written to the list of those that the device says
 pub record IsDirectory (d : DirectoryValue) : Type 0 where
   pub block_size : d.names.block_size ≡ 1024
-  pub limit : d.names.limit ≡ 1
-  pub same_count : length d.at ≡ length d.names.blocks
+  pub limit : d.names.limit ≡ 64
+  pub settled : d.maps.space.settled ≡ []
+  pub size : d.maps.space.size ≡ 0
+  pub same_count : length d.maps.space.present ≡ length d.names.blocks
+  pub pages : d.maps.space.present ≡ pages_from 0 (placed d.maps.space.present d.names.blocks)
 
 -- ---- by inode number
 
@@ -51,15 +64,3 @@ without name d = record d { names = record d.names { blocks = map (others name) 
 
 abbrev pub with_name : DirEntry → DirectoryValue → DirectoryValue
 with_name e d = record d { names = with_entry d.names e }
-
--- the entry in a new last block
-abbrev pub with_block : DirEntry → ℕ → DirectoryValue → DirectoryValue
-with_block e b d = record { names = with_entry d.names e; at = d.at ++ b ∷ [] }
-
--- the last block's number
-abbrev pub last_of : List ℕ → Option ℕ
-last_of at = slice_get at (length at - 1)
-
-abbrev pub last_place : Option DirectoryValue → Option ℕ
-last_place None = None
-last_place (Some d) = last_of d.at

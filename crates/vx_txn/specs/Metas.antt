@@ -6,11 +6,11 @@ use Rattle.vx_base.specs.declared.kind.FileKind.TheVariants.{File, Directory}
 use Rattle.vx_base.specs.declared.inode.Inode.{Inode}
 use Rattle.vx_alloc.specs.FreeMaps as alloc
 use Rattle.vx_inode.specs.Tables.{inode_at}
-use Rattle.vx_model.specs.Layout.{blocks_at, is_free}
+use Rattle.vx_model.specs.Layout.{blocks_at, maps_at, is_free}
 use Rattle.vx_model.specs.State.{State}
 use Rattle.vx_model.specs.Contents.{inode_value}
 use Rattle.vx_model.specs.LaidOut.{IsLaidOut}
-use Rattle.vx_txn.specs.Directories.{DirectoryValue, IsDirectory, blocks_in, directory_at}
+use Rattle.vx_txn.specs.Directories.{DirectoryValue, IsDirectory, blocks_in, maps_in, directory_at}
 use Rattle.vx_txn.specs.declared.meta.Meta.{Meta}
 
 -- a directory has its blocks there, and nothing else has
@@ -27,6 +27,7 @@ directory_of m n = directory_at m.directories.items n
 pub record IsStateOf (m : Meta) (s : State) : Type 0 where
   pub inodes : (n : ℕ) → inode_at m.inodes n ≡ option_map (λ (v : InodeValue). v.inode) (inode_value s n)
   pub blocks : (n : ℕ) → blocks_at s.layout n ≡ blocks_in (directory_of m n)
+  pub maps : (n : ℕ) → maps_at s.layout n ≡ maps_in (directory_of m n)
   pub kinds : (n : ℕ) → HasDirectory (inode_at m.inodes n) (directory_of m n)
   pub free : (b : ℕ) → alloc.is_free m.free b ≡ is_free s.layout b
   pub pending : (b : ℕ) → alloc.place_of m.free b ≡ s.layout.pending b
@@ -38,7 +39,7 @@ pub record IsStateOf (m : Meta) (s : State) : Type 0 where
   pub bar : m.free.bar ≡ None
   pub bits : length m.free.free ≡ 4096 * m.free.units
   pub places : length m.free.pending ≡ 4096 * m.free.units
-  pub limit : s.layout.directory_limit ≡ 1
+  pub limit : s.layout.directory_limit ≡ 64
 
 -- the metadata stand for a state of which an image reads as the tree
 pub record Stands (m : Meta) (s : State) : Type 0 where

@@ -1,5 +1,5 @@
 //! chmod
-ghost use Rattle.std.specs.Prelude.{◌≡◌, ◌≤◌, IfOk, OnErr};
+ghost use Rattle.std.specs.Prelude.{◌≡◌, ◌≤◌, IfOk, OnErr, length};
 ghost use Rattle.vx_model.specs.Naming.{chmod, chmod_at};
 ghost use Rattle.vx_model.specs.State.{State};
 ghost use Rattle.vx_model.specs.Touching.{untouched};
@@ -30,6 +30,7 @@ pub fn chmod(
     ensures short { IfOk result IsShort }
     ensures fits { IfOk result (FitsReply touched.new) }
     ensures few { most touched.new ≤ 4 }
+    ensures units { length touched.new.units ≤ 70 }
     ensures unchanged { OnErr result (IsUnchanged meta.old meta.new) }
     ensures untouched { OnErr result (touched.new ≡ untouched) }
 {
@@ -50,6 +51,7 @@ fn chmod_at(meta: &mut Meta, ino: Ino, mode: u16, touched: &mut Touched) -> Repl
     ensures short { IsShort result }
     ensures fits { FitsReply touched.new result }
     ensures few { most touched.new ≤ 4 }
+    ensures units { length touched.new.units ≤ 70 }
 {
     if meta.inodes.get(ino).is_none() {
         return Reply::Refused(Refusal::NoEnt);

@@ -1,18 +1,26 @@
 //! A directory's names and where they stand.
-ghost use Rattle.std.specs.Prelude.{◌≡◌, ◌≤◌, length, IfOk, OnOk, OnErr, Ok, Err, None, [], ◌∷◌, ◌++◌};
-ghost use Rattle.vx_dir.specs.Directories.{empty, inode_of};
-ghost use Rattle.vx_txn.specs.Directories.{without, with_name, with_block};
+ghost use Rattle.std.specs.Prelude.{◌≡◌, ◌≤◌, length, IfErr, IfOk, OnOk, OnErr, Some};
+ghost use Rattle.vx_dir.specs.Directories.{with_entry};
+ghost use Rattle.vx_filemaps.specs.FileMaps.{IsReady};
+ghost use Rattle.vx_model.specs.Touching.{IsOnlyIn};
+ghost use Rattle.vx_txn.specs.Directories.{blocks_in, without, with_name};
+ghost use Rattle.vx_txn.specs.Edits.{empty_directory, HasGrown, IsFull};
 
 use std::alloc::{AllocError, Global};
 use std::marker::Model;
-use vx_base::{Block, Geom, Ino, Name};
+use vx_alloc::FreeMap;
+use vx_base::{Ino, Name, Page};
 use vx_dir::DirBlocks;
+use vx_filemaps::{FileMaps, PlaceRefusal, Scratch};
 
-/// A directory: the entries of its blocks, and the blocks' places on the device, in page order.
+/// The length of a first extent, in blocks.
+const FIRST_EXTENT: u32 = 8;
+
+/// A directory: the entries of its blocks, and the blocks' places on the device, as pages, with its map blocks.
 #[derive(Drop)]
 pub struct Directory {
     names: DirBlocks,
-    at: Vec<Block>,
+    maps: FileMaps,
 }
 
 impl Model for Directory {
@@ -20,32 +28,18 @@ impl Model for Directory {
 
     ghost Value = { DirectoryValue };
 
-    ghost view = { λ d. record { names = d.names; at = d.at.items } };
+    ghost view = { λ d. record { names = d.names; maps = d.maps } };
 }
 
 impl Directory {
-    /// A directory without a block. It may have one so far.
+    /// A directory without a block.
     pub fn new(alloc: Global) -> Self
-        ensures names { result.names ≡ empty 1024 1 }
-        ensures at { result.at ≡ [] }
+        ensures { result ≡ empty_directory }
     {
-        let geom = Geom {
-            dirs: 1,
-            ..Geom::layout1()
-        };
         Directory {
-            names: DirBlocks::with(alloc, geom),
-            at: Vec::new(alloc),
+            names: DirBlocks::new(alloc),
+            maps: FileMaps::new(alloc),
         }
-    }
-
-    /// The same directory, in memory of its own.
-    pub fn copy(&self) -> Result<Directory, AllocError>
-        ensures { IfOk result (λ copy. copy ≡ self.now) }
-    {
-        let names = self.names.copy()?;
-        let at = Vec::from_slice(*self.at.allocator(), self.at.as_slice())?;
-        Ok(Directory { names, at })
     }
 
     /// The entries, by block.
@@ -55,19 +49,29 @@ impl Directory {
         &self.names
     }
 
-    /// The places of the blocks.
-    pub fn at(&self) -> &[Block]
-        ensures { result.now ≡ self.now.at }
+    /// The blocks, as pages, and the map blocks.
+    pub fn maps(&self) -> &FileMaps
+        ensures { result.now ≡ self.now.maps }
     {
-        self.at.as_slice()
+        &self.maps
     }
 
-    /// Removes a name, if it is there.
-    pub fn remove(&mut self, name: &Name)
-        ensures { self.new ≡ without name.now self.old }
+    /// Has these names in place of its own.
+    pub fn set_names(&mut self, names: DirBlocks)
+        ensures { self.new ≡ record self.old { names = names } }
+    {
+        self.names = names;
+    }
+
+    /// Removes a name, if it is there, and answers which block had it: no other block has the name.
+    pub fn remove(&mut self, name: &Name) -> u32
+        ensures removed { self.new ≡ without name.now self.old }
+        ensures only { IsOnlyIn name.now result (blocks_in (Some self.old)) }
     {
         self.names.kept();
+        let at = self.names.block_of(name);
         let _ = self.names.remove(name);
+        at.unwrap_or(0)
     }
 
     /// Adds a name for which a block has room. Unchanged where memory is short.
@@ -82,19 +86,47 @@ impl Directory {
         }
     }
 
-    /// Adds a name in a new last block. Unchanged where memory is short.
-    pub fn add_block(&mut self, name: &Name, ino: Ino, b: Block) -> Result<(), AllocError>
+    /// Adds a name in a new last block, and takes the blocks for it. Nothing changes where there are none or memory is short.
+    pub fn add_block(
+        &mut self,
+        free: &mut FreeMap,
+        scratch: &mut Scratch,
+        name: &Name,
+        ino: Ino,
+    ) -> Result<(), PlaceRefusal>
+        requires ready { IsReady free.old }
         requires short { length name.now ≤ 255 }
-        ensures ok { OnOk result (self.new ≡ with_block (record { ino = ino; name = name.now }) b self.old) }
-        ensures err { OnErr result (self.new ≡ self.old) }
+        ensures grown { OnOk result (HasGrown (record { ino = ino; name = name.now }) self.old self.new free.old free.new) }
+        ensures refused { IfErr result (IsFull self.old free.old) }
+        ensures unchanged { OnErr result (self.new ≡ self.old) }
+        ensures free { OnErr result (free.new ≡ free.old) }
     {
-        self.at.push(b)?;
-        match self.names.add(name, ino) {
-            Ok(_) => Ok(()),
-            Err(_) => {
-                let _ = self.at.pop();
-                Err(AllocError)
+        // A copy of the names has the memory first, since blocks are not given back.
+        match copy_with(&self.names, name, ino) {
+            Ok(names) => {
+                self.names.kept();
+                let from = Page::new(self.names.blocks());
+                match self.maps.place_write(free, scratch, FIRST_EXTENT, from, 1) {
+                    Ok(()) => {
+                        self.names = names;
+                        Ok(())
+                    }
+                    Err(why) => Err(why),
+                }
             }
+            Err(_) => Err(PlaceRefusal::NoMemory),
         }
+    }
+}
+
+/// The same names and one more.
+fn copy_with(names: &DirBlocks, name: &Name, ino: Ino) -> Result<DirBlocks, AllocError>
+    requires short { length name.now ≤ 255 }
+    ensures { IfOk result (λ copy. copy ≡ with_entry names.now (record { ino = ino; name = name.now })) }
+{
+    let mut copy = names.copy()?;
+    match copy.add(name, ino) {
+        Ok(_) => Ok(copy),
+        Err(_) => Err(AllocError),
     }
 }

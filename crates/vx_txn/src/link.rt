@@ -1,5 +1,5 @@
 //! link
-ghost use Rattle.std.specs.Prelude.{◌≡◌, ◌≤◌, Ok, true, IfOk, OnErr};
+ghost use Rattle.std.specs.Prelude.{◌≡◌, ◌≤◌, Ok, true, IfOk, OnErr, length};
 ghost use Rattle.std.specs.List.{list_all};
 ghost use Rattle.vx_base.specs.Paths.{is_name};
 ghost use Rattle.vx_model.specs.Linking.{link, link_along, link_inode};
@@ -39,6 +39,7 @@ pub fn link(
     ensures short { IfOk result IsShort }
     ensures fits { IfOk result (FitsReply touched.new) }
     ensures few { most touched.new ≤ 4 }
+    ensures units { length touched.new.units ≤ 70 }
     ensures unchanged { OnErr result (IsUnchanged meta.old meta.new) }
     ensures untouched { OnErr result (touched.new ≡ untouched) }
 {
@@ -63,6 +64,7 @@ fn link_names(
     ensures short { IfOk result IsShort }
     ensures fits { IfOk result (FitsReply touched.new) }
     ensures few { most touched.new ≤ 4 }
+    ensures units { length touched.new.units ≤ 70 }
     ensures unchanged { OnErr result (IsUnchanged meta.old meta.new) }
     ensures untouched { OnErr result (touched.new ≡ untouched) }
 {
@@ -86,6 +88,7 @@ fn link_along(
     ensures short { IfOk result IsShort }
     ensures fits { IfOk result (FitsReply touched.new) }
     ensures few { most touched.new ≤ 4 }
+    ensures units { length touched.new.units ≤ 70 }
     ensures unchanged { OnErr result (IsUnchanged meta.old meta.new) }
     ensures untouched { OnErr result (touched.new ≡ untouched) }
 {
@@ -114,6 +117,7 @@ fn link_file(
     ensures short { IfOk result IsShort }
     ensures fits { IfOk result (FitsReply touched.new) }
     ensures few { most touched.new ≤ 4 }
+    ensures units { length touched.new.units ≤ 70 }
     ensures unchanged { OnErr result (IsUnchanged meta.old meta.new) }
     ensures untouched { OnErr result (touched.new ≡ untouched) }
 {
@@ -143,6 +147,7 @@ fn link_at(
     ensures short { IfOk result IsShort }
     ensures fits { IfOk result (FitsReply touched.new) }
     ensures few { most touched.new ≤ 4 }
+    ensures units { length touched.new.units ≤ 70 }
     ensures unchanged { OnErr result (IsUnchanged meta.old meta.new) }
     ensures untouched { OnErr result (touched.new ≡ untouched) }
 {
@@ -175,6 +180,7 @@ fn link_in(
     ensures short { IfOk result IsShort }
     ensures fits { IfOk result (FitsReply touched.new) }
     ensures few { most touched.new ≤ 4 }
+    ensures units { length touched.new.units ≤ 70 }
     ensures unchanged { OnErr result (IsUnchanged meta.old meta.new) }
     ensures untouched { OnErr result (touched.new ≡ untouched) }
 {

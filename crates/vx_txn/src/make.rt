@@ -1,5 +1,5 @@
 //! create and mkdir.
-ghost use Rattle.std.specs.Prelude.{◌≡◌, ◌≤◌, ◌<◌, ◌*◌, ℕ, true, None, IfOk, OnErr};
+ghost use Rattle.std.specs.Prelude.{◌≡◌, ◌≤◌, ◌<◌, ◌*◌, ℕ, true, None, IfOk, OnErr, length};
 ghost use Rattle.std.specs.List.{list_all};
 ghost use Rattle.vx_base.specs.Paths.{is_name};
 ghost use Rattle.vx_model.specs.Making.{make_in, make_at, make_along};
@@ -43,6 +43,7 @@ pub fn make(
     ensures short { IfOk result IsShort }
     ensures fits { IfOk result (FitsReply touched.new) }
     ensures few { most touched.new ≤ 4 }
+    ensures units { length touched.new.units ≤ 70 }
     ensures unchanged { OnErr result (IsUnchanged meta.old meta.new) }
     ensures untouched { OnErr result (touched.new ≡ untouched) }
 {
@@ -69,6 +70,7 @@ fn make_along(
     ensures short { IfOk result IsShort }
     ensures fits { IfOk result (FitsReply touched.new) }
     ensures few { most touched.new ≤ 4 }
+    ensures units { length touched.new.units ≤ 70 }
     ensures unchanged { OnErr result (IsUnchanged meta.old meta.new) }
     ensures untouched { OnErr result (touched.new ≡ untouched) }
 {
@@ -98,6 +100,7 @@ fn make_at(
     ensures short { IfOk result IsShort }
     ensures fits { IfOk result (FitsReply touched.new) }
     ensures few { most touched.new ≤ 4 }
+    ensures units { length touched.new.units ≤ 70 }
     ensures unchanged { OnErr result (IsUnchanged meta.old meta.new) }
     ensures untouched { OnErr result (touched.new ≡ untouched) }
 {
@@ -130,6 +133,7 @@ fn make_in(
     ensures short { IfOk result IsShort }
     ensures fits { IfOk result (FitsReply touched.new) }
     ensures few { most touched.new ≤ 4 }
+    ensures units { length touched.new.units ≤ 70 }
     ensures unchanged { OnErr result (IsUnchanged meta.old meta.new) }
     ensures untouched { OnErr result (touched.new ≡ untouched) }
 {

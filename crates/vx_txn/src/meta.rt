@@ -1,7 +1,8 @@
 //! The metadata.
-ghost use Rattle.std.specs.Prelude.{◌≡◌, ◌+◌, ◌*◌, ◌≤◌, ◌<◌, IfOk, IfSome, IsSome, OnErr, ℕ, Option, None, Ok, true, false, is_some, IsTrue};
+ghost use Rattle.std.specs.Prelude.{◌≡◌, ◌+◌, ◌*◌, ◌≤◌, ◌<◌, IfOk, IfSome, IsSome, OnErr, ℕ, Option, None, Ok, true, false, is_some, slice_get, IsTrue, length};
 ghost use Rattle.std.specs.Option.{option_copied};
 ghost use Rattle.vx_base.specs.declared.kind.FileKind.TheVariants as kind;
+ghost use Rattle.vx_extents.specs.Extents.{stretches};
 ghost use Rattle.vx_layout.specs.Places.{is_data};
 ghost use Rattle.vx_model.specs.Contents.{inode_value};
 ghost use Rattle.vx_model.specs.LaidOut.{IsLaidOut};
@@ -15,7 +16,7 @@ ghost use Rattle.vx_model.specs.Touching.{untouched};
 ghost use Rattle.vx_model.specs.Tree.{no_attrs};
 ghost use Rattle.vx_txn.specs.Calls.{HasMode, IsDone, IsSettled, most};
 ghost use Rattle.vx_txn.specs.Replies.{FitsReply, IsShort, IsSound as IsSoundReply};
-ghost use Rattle.vx_txn.specs.Values.{value_by, block_count, extent_from, has_short_step};
+ghost use Rattle.vx_txn.specs.Values.{AreFew, value_by, has_short_step};
 ghost use Rattle.vx_txn.specs.Metas.{IsStateOf, IsSound, IsUnchanged, Stands, directory_of};
 
 use crate::chmod::chmod;
@@ -30,10 +31,12 @@ use crate::touched::Touched;
 use std::alloc::{AllocError, Global};
 use vx_alloc::FreeMap;
 use vx_base::{
-    Block, Call, ExtAttrs, Extent, FileKind, Ino, Inode, InodeValue, Kind, Page, Reply,
-    copy_of_reply,
+    Block, Call, ExtAttrs, Extent, FileKind, Ino, Inode, InodeValue, Reply, copy_of_reply,
 };
+use vx_extents::ExtentMap;
+use vx_filemaps::Scratch;
 use vx_inode::InodeTable;
+use vx_model::states::claims;
 
 /// The units of a new file system.
 const UNITS: u32 = 1;
@@ -48,6 +51,7 @@ pub struct Meta {
     pub(crate) inodes: InodeTable,
     pub(crate) directories: Vec<Option<Directory>>,
     pub(crate) free: FreeMap,
+    pub(crate) scratch: Scratch,
     /// The first block of unit 0.
     pub(crate) first: Block,
 }
@@ -56,7 +60,7 @@ impl Meta {
     /// The metadata of a new file system of one unit, whose root is empty.
     pub fn fresh(alloc: Global, log_blocks: u32) -> Result<Self, AllocError>
         requires { log_blocks ≤ 2048 }
-        ensures state { IfOk result (λ m. (device_sectors : ℕ) → IsStateOf m (fresh log_blocks 1 device_sectors)) }
+        ensures state { IfOk result (λ m. (device_sectors : ℕ) → IsStateOf m (fresh log_blocks 64 device_sectors)) }
         ensures sound { IfOk result IsSound }
     {
         let mut inodes = InodeTable::new(alloc, UNITS)?;
@@ -71,6 +75,7 @@ impl Meta {
             inodes,
             directories,
             free,
+            scratch: Scratch::new(alloc),
             first,
         })
     }
@@ -95,6 +100,7 @@ impl Meta {
         ensures stays { IsSound self.new }
         ensures fits { IfOk result (λ replies. FitsReply touched.new replies.0) }
         ensures few { most touched.new ≤ 4 }
+        ensures units { length touched.new.units ≤ 70 }
         ensures err { (s : State) → IsStateOf self.old s → OnErr result (IsStateOf self.new s) }
         ensures untouched { OnErr result (touched.new ≡ untouched) }
         ensures mount { is_for_mount call.now ≡ true → result ≡ Ok (Fine, Fine) }
@@ -137,10 +143,11 @@ impl Meta {
         directory_at(self.directories.as_slice(), ino)
     }
 
-    /// Whether a directory has a data block.
+    /// Whether an inode has a data block.
     pub fn is_claimed(&self, b: Block) -> bool
         ensures { (s : State) → IsLaidOut s → IsStateOf self.now s → IsTrue (is_data (volume s.layout) b) → result ≡ is_some (claim_of s.layout b) }
     {
+        claims();
         self.free.is_used(b)
     }
 }
@@ -164,41 +171,44 @@ fn root() -> Inode
 
 /// What the inode and its directory say, as the inode's slot has it.
 fn value_of(inode: Inode, directory: Option<&Directory>) -> InodeValue
-    ensures { result ≡ value_by inode (option_copied directory.entry) }
-{
-    let first = match directory {
-        Some(directory) => first_extent(directory.at()),
-        None => None,
-    };
-    InodeValue {
-        inode,
-        maps: 0,
-        extents: block_count(directory),
-        first: [first, None, None, None, None, None],
-        map: None,
-    }
-}
-
-fn block_count(directory: Option<&Directory>) -> u32
-    ensures { result ≡ block_count (option_copied directory.entry) }
+    ensures { AreFew (option_copied directory.entry) → result ≡ value_by inode (option_copied directory.entry) }
 {
     match directory {
-        Some(directory) => directory.names().blocks(),
-        None => 0,
+        Some(directory) => {
+            let maps = directory.maps();
+            InodeValue {
+                inode,
+                maps: maps.chain().len().min(65_535) as u16,
+                extents: maps.present().extents(),
+                first: [
+                    extent_at(maps.present(), 0),
+                    extent_at(maps.present(), 1),
+                    extent_at(maps.present(), 2),
+                    extent_at(maps.present(), 3),
+                    extent_at(maps.present(), 4),
+                    extent_at(maps.present(), 5),
+                ],
+                map: maps.chain().first().copied(),
+            }
+        }
+        None => InodeValue {
+            inode,
+            maps: 0,
+            extents: 0,
+            first: [None, None, None, None, None, None],
+            map: None,
+        },
     }
 }
 
-fn first_extent(at: &[Block]) -> Option<Extent>
-    ensures { result ≡ extent_from at.now }
+/// An extent by its place, if there is one.
+fn extent_at(pages: &ExtentMap, i: u32) -> Option<Extent>
+    ensures { result ≡ slice_get (stretches pages.now.pages) i }
 {
-    match at.first() {
-        Some(start) => Some(Extent {
-            page: Page::new(0),
-            start: *start,
-            len: 1,
-            kind: Kind::Data,
-        }),
-        None => None,
+    if i < pages.extents() {
+        Some(pages.stretch(i))
+    } else {
+        None
     }
 }
 
@@ -231,6 +241,7 @@ fn changed(
     ensures short { IfOk result (λ replies. IsShort replies.0) }
     ensures fits { IfOk result (λ replies. FitsReply touched.new replies.0) }
     ensures few { most touched.new ≤ 4 }
+    ensures units { length touched.new.units ≤ 70 }
     ensures unchanged { OnErr result (IsUnchanged meta.old meta.new) }
     ensures untouched { OnErr result (touched.new ≡ untouched) }
     ensures mount { is_for_mount call.now ≡ true → result ≡ Ok (Fine, Fine) }
@@ -261,6 +272,7 @@ fn short_reply(
     ensures short { IfOk result IsShort }
     ensures fits { IfOk result (FitsReply touched.new) }
     ensures few { most touched.new ≤ 4 }
+    ensures units { length touched.new.units ≤ 70 }
     ensures unchanged { OnErr result (IsUnchanged meta.old meta.new) }
     ensures untouched { OnErr result (touched.new ≡ untouched) }
     ensures mount { is_for_mount call.now ≡ true → result ≡ Ok Fine }

@@ -1,5 +1,5 @@
 //! unlink and rmdir.
-ghost use Rattle.std.specs.Prelude.{◌≡◌, ◌≢◌, ◌≤◌, ◌+◌, ◌<◌, ℕ, Ok, Some, false, IfOk, IfErr, OnErr, IsTrue, ◌↔◌};
+ghost use Rattle.std.specs.Prelude.{◌≡◌, ◌≢◌, ◌≤◌, ◌+◌, ◌<◌, ℕ, Ok, Some, false, IfOk, IfErr, OnErr, IsTrue, ◌↔◌, length};
 ghost use Rattle.std.specs.FinMap as map;
 ghost use Rattle.vx_inode.specs.Tables.{is_used, links_at};
 ghost use Rattle.vx_model.specs.Legal.{is_any_time};
@@ -37,6 +37,7 @@ pub fn unlink(
     ensures short { IfOk result IsShort }
     ensures fits { IfOk result (FitsReply touched.new) }
     ensures few { most touched.new ≤ 4 }
+    ensures units { length touched.new.units ≤ 70 }
     ensures unchanged { OnErr result (IsUnchanged meta.old meta.new) }
     ensures untouched { OnErr result (touched.new ≡ untouched) }
 {
@@ -55,6 +56,7 @@ fn unlink_along(meta: &mut Meta, names: &[Name], place: u64, touched: &mut Touch
     ensures short { IsShort result }
     ensures fits { FitsReply touched.new result }
     ensures few { most touched.new ≤ 4 }
+    ensures units { length touched.new.units ≤ 70 }
 {
     match names.split_last() {
         None => Reply::Refused(Refusal::IsDir),
@@ -73,6 +75,7 @@ fn unlink_at(meta: &mut Meta, at: Ino, name: &Name, place: u64, touched: &mut To
     ensures short { IsShort result }
     ensures fits { FitsReply touched.new result }
     ensures few { most touched.new ≤ 4 }
+    ensures units { length touched.new.units ≤ 70 }
 {
     match step_to(meta, at, name) {
         Ok(ino) => unlink_entry(meta, at, name, ino, place, touched),
@@ -96,6 +99,7 @@ fn unlink_entry(
     ensures short { IsShort result }
     ensures fits { FitsReply touched.new result }
     ensures few { most touched.new ≤ 4 }
+    ensures units { length touched.new.units ≤ 70 }
 {
     match links_of(meta, ino) {
         Ok(_) => {
@@ -127,9 +131,11 @@ pub fn drop_name(meta: &mut Meta, ino: Ino, place: u64, touched: &mut Touched)
     requires used { IsTrue (is_used meta.old.inodes ino) }
     requires other { ino ≢ 2 }
     requires few { most touched.old < 4 }
+    requires room { length touched.old.units ≤ 5 }
     ensures unnamed { (base s : State) (node : Node) → HasGone base s meta.old touched.old → map.get s.tree.nodes ino ≡ Some node
         → HasGone base (unnamed s place ino node) meta.new touched.new }
     ensures few { most touched.new ≤ most touched.old + 1 }
+    ensures units { length touched.new.units ≤ length touched.old.units + 65 }
 {
     if has_more_names(meta, ino) {
         remove_link(meta, ino, touched);
@@ -163,6 +169,7 @@ pub fn rmdir(
     ensures short { IfOk result IsShort }
     ensures fits { IfOk result (FitsReply touched.new) }
     ensures few { most touched.new ≤ 4 }
+    ensures units { length touched.new.units ≤ 70 }
     ensures unchanged { OnErr result (IsUnchanged meta.old meta.new) }
     ensures untouched { OnErr result (touched.new ≡ untouched) }
 {
@@ -181,6 +188,7 @@ fn rmdir_along(meta: &mut Meta, names: &[Name], place: u64, touched: &mut Touche
     ensures short { IsShort result }
     ensures fits { FitsReply touched.new result }
     ensures few { most touched.new ≤ 4 }
+    ensures units { length touched.new.units ≤ 70 }
 {
     match names.split_last() {
         None => Reply::Refused(Refusal::RootFixed),
@@ -211,6 +219,7 @@ fn remove_directory(
     ensures short { IsShort result }
     ensures fits { FitsReply touched.new result }
     ensures few { most touched.new ≤ 4 }
+    ensures units { length touched.new.units ≤ 70 }
 {
     match directory_of(meta, ino) {
         Ok(directory) => {

@@ -1,5 +1,5 @@
 //! rename
-ghost use Rattle.std.specs.Prelude.{◌≡◌, ◌≢◌, ◌≤◌, ℕ, Ok, Err, Some, true, false, IfOk, IfErr, OnErr, IsTrue};
+ghost use Rattle.std.specs.Prelude.{◌≡◌, ◌≢◌, ◌≤◌, ℕ, Ok, Err, Some, true, false, IfOk, IfErr, OnErr, IsTrue, length};
 ghost use Rattle.std.specs.List.{list_all};
 ghost use Rattle.std.specs.Option.{option_map};
 ghost use Rattle.std.specs.FinMap as map;
@@ -18,10 +18,9 @@ ghost use Rattle.vx_inode.specs.Tables.{is_used};
 ghost use Rattle.vx_txn.specs.Directories.{DirectoryValue, IsNewIn};
 ghost use Rattle.vx_txn.specs.Metas.{Stands, IsSound, IsUnchanged, directory_of};
 ghost use Rattle.vx_txn.specs.Removals.{IsRootUsed};
-ghost use Rattle.vx_txn.specs.Renames.{rename_new, entry, move_of, move_along, kind_of, replaceable, put_over};
+ghost use Rattle.vx_txn.specs.Renames.{IsNamesOf, rename_new, entry, move_of, move_along, kind_of, replaceable, put_over};
 ghost use Rattle.vx_txn.specs.Replies.{FitsReply, IsShort};
 
-use crate::directory::Directory;
 use crate::edits::{add_name, remove_name};
 use crate::make::refused;
 use crate::meta::Meta;
@@ -31,6 +30,7 @@ use crate::touched::Touched;
 use crate::walk::{directory_of, step_to, walk};
 use std::alloc::{AllocError, Global};
 use vx_base::{FileKind, Ino, Name, Names, Refusal, Reply};
+use vx_dir::DirBlocks;
 use vx_path::{SplitRefusal, split};
 
 /// A name of the directory `at`, and the inode that it means.
@@ -64,6 +64,7 @@ pub fn rename(
     ensures short { IfOk result IsShort }
     ensures fits { IfOk result (FitsReply touched.new) }
     ensures few { most touched.new ≤ 4 }
+    ensures units { length touched.new.units ≤ 70 }
     ensures unchanged { OnErr result (IsUnchanged meta.old meta.new) }
     ensures untouched { OnErr result (touched.new ≡ untouched) }
 {
@@ -89,6 +90,7 @@ fn rename_names(
     ensures short { IfOk result IsShort }
     ensures fits { IfOk result (FitsReply touched.new) }
     ensures few { most touched.new ≤ 4 }
+    ensures units { length touched.new.units ≤ 70 }
     ensures unchanged { OnErr result (IsUnchanged meta.old meta.new) }
     ensures untouched { OnErr result (touched.new ≡ untouched) }
 {
@@ -113,6 +115,7 @@ fn rename_along(
     ensures short { IfOk result IsShort }
     ensures fits { IfOk result (FitsReply touched.new) }
     ensures few { most touched.new ≤ 4 }
+    ensures units { length touched.new.units ≤ 70 }
     ensures unchanged { OnErr result (IsUnchanged meta.old meta.new) }
     ensures untouched { OnErr result (touched.new ≡ untouched) }
 {
@@ -152,6 +155,7 @@ fn move_along<'a>(
     ensures short { IfOk result IsShort }
     ensures fits { IfOk result (FitsReply touched.new) }
     ensures few { most touched.new ≤ 4 }
+    ensures units { length touched.new.units ≤ 70 }
     ensures unchanged { OnErr result (IsUnchanged meta.old meta.new) }
     ensures untouched { OnErr result (touched.new ≡ untouched) }
 {
@@ -188,6 +192,7 @@ fn move_to(
     ensures short { IfOk result IsShort }
     ensures fits { IfOk result (FitsReply touched.new) }
     ensures few { most touched.new ≤ 4 }
+    ensures units { length touched.new.units ≤ 70 }
     ensures unchanged { OnErr result (IsUnchanged meta.old meta.new) }
     ensures untouched { OnErr result (touched.new ≡ untouched) }
 {
@@ -232,6 +237,7 @@ fn move_onto(
     ensures short { IfOk result IsShort }
     ensures fits { IfOk result (FitsReply touched.new) }
     ensures few { most touched.new ≤ 4 }
+    ensures units { length touched.new.units ≤ 70 }
     ensures unchanged { OnErr result (IsUnchanged meta.old meta.new) }
     ensures untouched { OnErr result (touched.new ≡ untouched) }
 {
@@ -287,6 +293,7 @@ fn put_in(meta: &mut Meta, m: &Move<'_>, touched: &mut Touched) -> Result<Reply,
     ensures short { IfOk result IsShort }
     ensures fits { IfOk result (FitsReply touched.new) }
     ensures few { most touched.new ≤ 4 }
+    ensures units { length touched.new.units ≤ 70 }
     ensures unchanged { OnErr result (IsUnchanged meta.old meta.new) }
     ensures untouched { OnErr result (touched.new ≡ untouched) }
 {
@@ -325,6 +332,7 @@ fn put_over(
     ensures short { IfOk result IsShort }
     ensures fits { IfOk result (FitsReply touched.new) }
     ensures few { most touched.new ≤ 4 }
+    ensures units { length touched.new.units ≤ 70 }
     ensures unchanged { OnErr result (IsUnchanged meta.old meta.new) }
     ensures untouched { OnErr result (touched.new ≡ untouched) }
 {
@@ -348,27 +356,26 @@ fn put_over(
 
 // ---- what is put back
 
-/// The directory of an inode number, in memory of its own.
-fn copy_at(meta: &Meta, at: Ino) -> Result<Directory, AllocError>
+/// The names of the directory of an inode number, in memory of their own.
+fn copy_at(meta: &Meta, at: Ino) -> Result<DirBlocks, AllocError>
     requires { (d : DirectoryValue) × (directory_of meta.now at ≡ Some d) }
-    ensures { IfOk result (λ copy. directory_of meta.now at ≡ Some copy) }
+    ensures { IfOk result (IsNamesOf (directory_of meta.now at)) }
 {
     match meta.directory(at) {
-        Some(directory) => directory.copy(),
+        Some(directory) => directory.names().copy(),
         None => unreachable!(),
     }
 }
 
-/// Puts a directory back as it was.
-fn put_back(meta: &mut Meta, at: Ino, before: Directory)
-    requires { (d : DirectoryValue) × (directory_of meta.old at ≡ Some d) }
-    ensures here { directory_of meta.new at ≡ Some before }
+/// Gives a directory the names that it had.
+fn put_back(meta: &mut Meta, at: Ino, before: DirBlocks)
+    ensures here { (d : DirectoryValue) → directory_of meta.old at ≡ Some d → directory_of meta.new at ≡ Some (record d { names = before }) }
     ensures others { (n : ℕ) → n ≢ at → directory_of meta.new n ≡ directory_of meta.old n }
     ensures inodes { meta.new.inodes ≡ meta.old.inodes }
     ensures free { meta.new.free ≡ meta.old.free }
     ensures first { meta.new.first ≡ meta.old.first }
 {
-    slots::put(meta.directories.as_mut_slice(), at, before);
+    slots::put_names(meta.directories.as_mut_slice(), at, before);
 }
 
 // ---- paths

@@ -7,8 +7,8 @@ use Rattle.vx_model.specs.State.{Done}
 use Rattle.vx_model.specs.Moving.{move_onto}
 use Rattle.vx_txn.specs.Calls.{IsSettled}
 use Rattle.vx_txn.specs.Renames.{move_of, replaceable}
-use Rattle.vx_txn.proofs.Lookups.{refused, step_of, directory_found, directory_node, new_of}
-use Rattle.vx_txn.proofs.Renaming.{not_replaced_there, replaced, not_replaced, no_step, step_entry, kind_is, onto}
+use Rattle.vx_txn.proofs.Lookups.{begun, done, refused, step_of, directory_found, directory_node, new_of}
+use Rattle.vx_txn.proofs.Renaming.{not_replaced_there, replaced, not_replaced, no_step, step_entry, kind_is, onto, onto_itself}
 use Rattle.vx_txn.proofs.rename.move_onto.Goals as goal
 
 pub put_over-requires-clause-not_from : goal.put_over-requires-clause-not_from
@@ -35,6 +35,13 @@ put_in-requires-clause-free c =
     let d = directory_found c.args.meta.now s stands m.to c.requires.directory.0 c.requires.directory.1 in
     new_of c.args.meta.now s stands m.to m.name.now
     (record { directory = d.0; found = d.1; absent = no_step s.tree.nodes m.to m.name.now d.0 _ d.1 (sym (c.step_to.ensures.step s stands) ∙ c.in-Err.is) })
+
+pub returns-then-eq-clause-done : goal.returns-then-eq-clause-done
+returns-then-eq-clause-done c = λ s d node stands at found.
+    let m = c.args.m.now in
+    let has = step_entry s.tree.nodes m.to m.name.now c.in-Ok.target d at (sym (c.step_to.ensures.step s stands) ∙ c.in-Ok.is) in
+    done s s (move_onto s c.args.place (move_of m node) (map.get d.entries m.name.now)) _ _ (onto_itself s c.args.place (move_of m node) (map.get d.entries m.name.now) c.in-Ok.target has (sym c.eq.ensures ∙ c.if-eq.true))
+    (begun s c.args.meta.now c.args.touched.now stands c.requires.empty)
 
 pub returns-in-Ok-replaceable-clause-done : goal.returns-in-Ok-replaceable-clause-done
 returns-in-Ok-replaceable-clause-done c = λ s d node stands at found.

@@ -10,7 +10,7 @@ use Rattle.vx_txn.specs.Metas.{IsUnchanged}
 use Rattle.vx_txn.proofs.Lookups.{begun, stands_of, sound_of, done, edited_to, refusal_settled, used_node, node_high, without_of, new_of}
 use Rattle.vx_txn.proofs.Changes.{unchanged_stands}
 use Rattle.vx_txn.proofs.MakingLaws.{short_refusal, on_err}
-use Rattle.vx_txn.proofs.Renaming.{removed_without, back_once}
+use Rattle.vx_txn.proofs.Renaming.{removed_without, back_once, found_there, keeps_own, keeps_removed, keeps_same, names_back}
 use Rattle.vx_txn.proofs.CallLaws.{reply_fits}
 use Rattle.vx_txn.proofs.rename.put_in.Goals as goal
 
@@ -35,8 +35,11 @@ add_name-requires-clause-inode c =
     let node = used_node c.args.meta.now s stands c.args.m.now.from.ino c.requires.used in
     subst (λ (t : Table). c.args.m.now.from.ino < 128 * t.units) (sym c.remove_name.ensures.inodes) (node_high c.args.meta.now s stands c.args.m.now.from.ino node.0 node.1)
 
-pub put_back-requires : goal.put_back-requires
-put_back-requires c = (_, c.in-Err.ensures.unchanged.directories c.args.m.now.from.at ∙ c.remove_name.ensures.here _ c.in_ok-before.ensures)
+pub copy_at-requires : goal.copy_at-requires
+copy_at-requires c = found_there c.args.meta.now c.requires.sound.state c.requires.sound.stands c.args.m.now.from.at c.args.m.now.from.name.now c.args.m.now.from.ino (c.requires.entry c.requires.sound.state c.requires.sound.stands)
+
+pub remove_name-requires-clause-directory : goal.remove_name-requires-clause-directory
+remove_name-requires-clause-directory c = found_there c.args.meta.now c.requires.sound.state c.requires.sound.stands c.args.m.now.from.at c.args.m.now.from.name.now c.args.m.now.from.ino (c.requires.entry c.requires.sound.state c.requires.sound.stands)
 
 pub returns-in-Ok-clause-done : goal.returns-in-Ok-clause-done
 returns-in-Ok-clause-done c = λ s node stands found.
@@ -47,11 +50,16 @@ returns-in-Ok-clause-done c = λ s node stands found.
 
 unchanged : (c : goal.After-refused) → IsUnchanged c.args.meta.now c.put_back.new.meta
 unchanged c =
-    back_once c.args.meta.now c.remove_name.new.meta c.add_name.new.meta c.put_back.new.meta c.args.m.now.from.at c.in_ok-before.before
+    let at = c.args.m.now.from.at in
+    let p = found_there c.args.meta.now c.requires.sound.state c.requires.sound.stands at c.args.m.now.from.name.now c.args.m.now.from.ino (c.requires.entry c.requires.sound.state c.requires.sound.stands) in
+    back_once c.args.meta.now c.remove_name.new.meta c.add_name.new.meta c.put_back.new.meta at
     (record { inodes = c.remove_name.ensures.inodes; others = c.remove_name.ensures.others; free = c.remove_name.ensures.free; first = c.remove_name.ensures.first })
     c.in-Err.ensures.unchanged
     (record { inodes = c.put_back.ensures.inodes; others = c.put_back.ensures.others; free = c.put_back.ensures.free; first = c.put_back.ensures.first })
-    c.in_ok-before.ensures c.put_back.ensures.here
+    (names_back c.args.meta.now c.add_name.new.meta c.put_back.new.meta at p.0 c.in_ok-before.before p.1 c.in_ok-before.ensures
+    (keeps_same c.remove_name.new.meta c.add_name.new.meta at p.0 c.in-Err.ensures.unchanged
+    (keeps_removed c.args.meta.now c.remove_name.new.meta at c.args.m.now.from.name.now at p.0 c.remove_name.ensures.here c.remove_name.ensures.others (keeps_own c.args.meta.now at p.0 p.1)))
+    c.put_back.ensures.here)
 
 pub returns-in-Err-clause-done : goal.returns-in-Err-clause-done
 returns-in-Err-clause-done c = λ s node stands found.

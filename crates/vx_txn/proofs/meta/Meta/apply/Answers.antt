@@ -17,6 +17,7 @@ returns-in_default c = record {
       (c.changed.ensures.done c.requires.sound.state 0 c.requires.sound.stands) c.changed.ensures.unchanged;
   fits = c.changed.ensures.fits;
   few = c.changed.ensures.few;
+  units = c.changed.ensures.units;
   err = λ s is. on_err_weaker c.changed.result (λ (u : IsUnchanged c.args.self.now c.changed.new.meta). unchanged_state c.args.self.now c.changed.new.meta s u is) c.changed.ensures.unchanged;
   untouched = c.changed.ensures.untouched;
   mount = c.changed.ensures.mount;

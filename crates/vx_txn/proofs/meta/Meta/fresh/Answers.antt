@@ -3,15 +3,11 @@ use Rattle.std.specs.FinMap as map
 use Rattle.std.specs.Ordering.{nat_cmp}
 use Rattle.vx_alloc.specs.FreeMaps.{all_free}
 use Rattle.vx_base.specs.declared.inode.Inode.{Inode}
-use Rattle.vx_dir.specs.Directories.{Directory, empty}
 use Rattle.vx_inode.specs.Tables.{Table, inode_at, with_inode}
 use Rattle.vx_model.specs.State.{fresh}
 use Rattle.vx_txn.specs.Directories.{DirectoryValue}
 use Rattle.vx_txn.proofs.MetaLaws.{fresh_is, fresh_laid_out}
 use Rattle.vx_txn.proofs.meta.Meta.fresh.Goals as goal
-
-abbrev slots_of : Directory → List ℕ → List (Option DirectoryValue)
-slots_of names at = None ∷ None ∷ Some (record { names = names; at = at }) ∷ []
 
 pub put-requires-clause-unused : goal.put-requires-clause-unused
 put-requires-clause-unused c = ap (λ (t : Table). inode_at t c.new-2.result) c.in_ok-inodes.ensures ∙ map.get-empty nat_cmp c.new-2.result
@@ -24,12 +20,11 @@ returns-clause-state c = λ device_sectors.
     (c.in_ok-push-3.ensures.items
     ∙ ap (λ (xs : List (Option DirectoryValue)). xs ++ Some c.new-3.result ∷ []) (c.in_ok-push-2.ensures.items ∙ ap (λ (xs : List (Option DirectoryValue)). xs ++ None ∷ []) c.in_ok-push.ensures.items)
     ∙ ap (λ (xs : List (Option DirectoryValue)). xs ++ None ∷ [] ++ None ∷ [] ++ Some c.new-3.result ∷ []) (let e : c.new-directories.result.items ≡ [] = search rules in e)
-    ∙ ap (λ (n : Directory). slots_of n c.new-3.result.at) c.new-3.ensures.names
-    ∙ ap (λ (a : List ℕ). slots_of (empty 1024 1) a) c.new-3.ensures.at)
+    ∙ ap (λ (d : DirectoryValue). None ∷ None ∷ Some d ∷ []) c.new-3.ensures)
     (c.in_ok-free.ensures ∙ ap (λ (n : ℕ). all_free n 4063 1) c.new-first.ensures)
     c.new-first.ensures
 
 pub returns-clause-sound : goal.returns-clause-sound
 returns-clause-sound c =
     let sectors : ℕ = 2 * (2 + c.args.log_blocks + 4096) in
-    record { state = fresh c.args.log_blocks 1 sectors; stands = record { laid_out = fresh_laid_out c.args.log_blocks sectors c.requires (omega arith); is = returns-clause-state c sectors } }
+    record { state = fresh c.args.log_blocks 64 sectors; stands = record { laid_out = fresh_laid_out c.args.log_blocks sectors c.requires (omega arith); is = returns-clause-state c sectors } }

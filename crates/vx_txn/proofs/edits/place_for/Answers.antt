@@ -2,7 +2,7 @@ use Rattle.std.proofs.Common.{◌≡◌, None, Err, sym, ◌∙◌, ap, subst}
 use Rattle.vx_dir.specs.Directories.{Directory, inode_of, add_answer}
 use Rattle.vx_txn.specs.Directories.{IsNewIn}
 use Rattle.vx_txn.proofs.EntryLaws.{refused_for_size}
-use Rattle.vx_txn.proofs.edits.has_room.Goals as goal
+use Rattle.vx_txn.proofs.edits.place_for.Goals as goal
 
 pub unreachable-requires : goal.unreachable-requires
 unreachable-requires c =
