@@ -1,0 +1,4 @@
+mod Rising
+mod Zeroes
+mod Marking
+mod PageRuns
