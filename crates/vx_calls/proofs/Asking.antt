@@ -15,11 +15,11 @@ use Rattle.vx_model.specs.Touching.{Touched, IsTouched, untouched}
 use Rattle.vx_stage.specs.Growths.{called_state}
 use Rattle.vx_stage.specs.Kernels.{present}
 use Rattle.vx_stage.specs.declared.kernel.Kernel.{Kernel}
-use Rattle.vx_txn.specs.Calls.{IsDone, most}
+use Rattle.vx_txn.specs.Calls.{IsDone}
 use Rattle.vx_txn.specs.Metas.{IsStateOf}
 use Rattle.vx_txn.specs.Replies.{FitsReply, IsSound as IsSoundReply}
 use Rattle.vx_txn.specs.declared.meta.Meta.{Meta}
-use Rattle.vx_calls.specs.Calls.{HasReplied}
+use Rattle.vx_calls.specs.Calls.{HasReplied, IsFew}
 use Rattle.vx_calls.specs.Mounts.{IsAt}
 use Rattle.vx_calls.specs.declared.mount.Mount.{Mount}
 
@@ -48,14 +48,14 @@ fine_step s place session call.Stop is = refl
 fine_step s place session _ is = absurd cc
 
 same_touched : (s : State) (t : Touched) → IsTouched s s t
-same_touched s t = record { same_volume = refl; inodes = λ n e. refl; directories = λ n e. refl; units = λ u j lt e. refl }
+same_touched s t = record { same_volume = refl; inodes = λ n e. refl; blocks = λ n i d e there. there; maps = λ n k c e there. there; units = λ u j lt e. refl }
 
 not_space : (why : Refusal) → is_any_time why ≡ true → is_no_space (say.Refused why) ≡ true → ⊥
 not_space (no.NoSpace need free) any_time short = absurd cc
 not_space _ any_time short = absurd cc
 
-none_touched : (t : Touched) → t ≡ untouched → most t ≤ 4
-none_touched t is = subst (λ (u : Touched). most u ≤ 4) (sym is) (omega arith)
+none_touched : (t : Touched) → t ≡ untouched → IsFew t
+none_touched t is = subst (λ (u : Touched). IsFew u) (sym is) (omega arith, omega arith)
 
 -- the state behind a call, by its reply
 after_fault : (o : World) (k : Kernel) (session : ℕ) (c : Call) (reply : Reply) → is_fault reply ≡ true → called_state o k session c reply ≡ present o k
@@ -152,7 +152,7 @@ module _ (o : World) (d : Device) (m : Mount) (at : IsAt o d m) (c : Call) (repl
   ran_of (Some done) e h = (done, (e, h))
 
   -- a call that ran and is answered so
-  pub done_replied : Ran → IsSoundReply reply → most t ≤ 4 → length m.kernel.gathered ≤ 144 → (is_no_space reply ≡ true → (b : ℕ) → s.layout.pending b ≡ None) → HasReplied o d (record m { meta = meta; touched = t }) c reply
+  pub done_replied : Ran → IsSoundReply reply → IsFew t → length m.kernel.gathered ≤ 144 → (is_no_space reply ≡ true → (b : ℕ) → s.layout.pending b ≡ None) → HasReplied o d (record m { meta = meta; touched = t }) c reply
   done_replied ran sound few place_is released = record {
     run = at.run;
     live = at.live;

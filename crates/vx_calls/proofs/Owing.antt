@@ -65,7 +65,7 @@ batch_some : (n : ℕ) → 0 < n → batch_owed n ≡ log_length n + n + 10
 unfolding batch_owed
 batch_some n some = ap (λ (b : Bool). cond b 0 (log_length n + n + 10)) (not_zero n some)
 
-batch_most : (n : ℕ) → n ≤ 160 → batch_owed n ≤ per_transaction
+batch_most : (n : ℕ) → n ≤ 400 → batch_owed n ≤ per_transaction
 batch_most zero le = omega (arith, batch_none)
 batch_most (suc n) le = omega (arith, le, batch_some (suc n) (omega arith))
 
@@ -124,7 +124,7 @@ owed_joined log h g g2 LeaveOut w le = omega arith
 owed_joined log h g g2 Left w le = omega arith
 owed_joined log h g g2 Broken w le = omega arith
 
-pub owed_act : (log : LogView) (h g g2 : ℕ) (j : Job) (w : ℕ) → (g2 ≡ g) ⊎ (g2 ≤ 160) → owed_by log h g2 j w ≤ owed_by log h g j w + per_transaction
+pub owed_act : (log : LogView) (h g g2 : ℕ) (j : Job) (w : ℕ) → (g2 ≡ g) ⊎ (g2 ≤ 400) → owed_by log h g2 j w ≤ owed_by log h g j w + per_transaction
 owed_act log h g g2 j w (inl same) = owed_joined log h g g2 j w (let is : batch_owed g2 ≡ batch_owed g = ap batch_owed same in omega (arith, is))
 owed_act log h g g2 j w (inr few) = owed_joined log h g g2 j w (let most : batch_owed g2 ≤ per_transaction = batch_most g2 few in omega (arith, most))
 

@@ -196,13 +196,13 @@ pub joined : (old k k2 : Kernel) (transaction : List AfterImage) → old ≡ k �
 joined old k k2 transaction is same gathered = subst (λ (x : Kernel). k2 ≡ record x { gathered = with_notes x.gathered transaction; history = k2.history }) is (same ∙ ap (λ (b : List AfterImage). record old { gathered = b; history = k2.history }) gathered)
 
 -- a transaction joined the open batch
-transaction_few : NoteLaws → (gathered transaction : List AfterImage) → length transaction ≤ 16 → ((transaction ≡ []) ⊎ (length gathered ≤ 144))
-    → (length (with_notes gathered transaction) ≡ length gathered) ⊎ (length (with_notes gathered transaction) ≤ 160)
+transaction_few : NoteLaws → (gathered transaction : List AfterImage) → length transaction ≤ 256 → ((transaction ≡ []) ⊎ (length gathered ≤ 144))
+    → (length (with_notes gathered transaction) ≡ length gathered) ⊎ (length (with_notes gathered transaction) ≤ 400)
 transaction_few laws gathered transaction few (inl none) = inl (ap (λ (t : List AfterImage). length (with_notes gathered t)) none)
 transaction_few laws gathered transaction few (inr place) = inr (omega (arith, few, place, laws.length gathered transaction))
 
 module _ (laws : NoteLaws) (m m2 : Mount) (transaction : List AfterImage) (same : m2.kernel ≡ record m.kernel { gathered = with_notes m.kernel.gathered transaction; history = m2.kernel.history }) (meta : m2.meta ≡ m.meta) where
-  pub joined_owed : length transaction ≤ 16 → ((transaction ≡ []) ⊎ (length m.kernel.gathered ≤ 144)) → owed m2 ≤ owed m + per_transaction
+  pub joined_owed : length transaction ≤ 256 → ((transaction ≡ []) ⊎ (length m.kernel.gathered ≤ 144)) → owed m2 ≤ owed m + per_transaction
   joined_owed few place =
       let now : owed m2 ≡ owed_by m.kernel.log (length m.kernel.homes) (length (with_notes m.kernel.gathered transaction)) m.kernel.job (waits m.meta) =
       ap (λ (x : Kernel). kernel_owed x (waits m2.meta)) same ∙ ap (λ (x : Meta). owed_by m.kernel.log (length m.kernel.homes) (length (with_notes m.kernel.gathered transaction)) m.kernel.job (waits x)) meta in

@@ -16,7 +16,7 @@ use Rattle.vx_model.specs.LaidOut.{IsLaidOut}
 use Rattle.vx_model.specs.Legal.{World, IfThere, unmounted, after_all, is_fault, is_no_space}
 use Rattle.vx_model.specs.State.{State}
 use Rattle.vx_model.specs.Step.{step, has_step}
-use Rattle.vx_model.specs.Touching.{IsTouched, untouched}
+use Rattle.vx_model.specs.Touching.{Touched, IsTouched, untouched}
 use Rattle.vx_stage.specs.Growths.{called_state}
 use Rattle.vx_stage.specs.Kernels.{IsFit, HasRun, IsLive, present}
 use Rattle.vx_stage.specs.declared.kernel.Job.TheVariants.{Left, Broken}
@@ -63,6 +63,10 @@ HasFailed (Some faults) now old new = (now ≡ Some faults) × (new ≡ old)
 
 -- ---- a call whose reply is known, and that is not noted yet
 
+-- as little as a call touches
+abbrev pub IsFew : Touched → Type 0
+IsFew t = (most t ≤ 4) × (length t.units ≤ 70)
+
 pub record HasReplied (o : World) (d : dev.State) (m : Mount) (c : Call) (reply : Reply) : Type 0 where
   pub run : HasRun o d m.kernel
   pub live : Told d (IsLive o m.kernel)
@@ -78,7 +82,7 @@ pub record HasReplied (o : World) (d : dev.State) (m : Mount) (c : Call) (reply 
   pub reply_is : (session : ℕ) → IfThere (step (present o m.kernel) (length m.kernel.history.items) session c) (λ done. (reply ≡ done.reply) ⊎ (is_fault reply ≡ true))
   pub state_is : (session : ℕ) → called_state o m.kernel session c reply ≡ new
   pub touched : IsTouched (present o m.kernel) new m.touched
-  pub few : most m.touched ≤ 4
+  pub few : IsFew m.touched
   pub place : (m.touched ≡ untouched) ⊎ (length m.kernel.gathered ≤ 144)
   -- where blocks wait to be free, a call is not refused for want of them
   pub all_released : is_no_space reply ≡ true → (b : ℕ) → (present o m.kernel).layout.pending b ≡ None

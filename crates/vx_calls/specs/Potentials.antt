@@ -72,11 +72,11 @@ owed m = kernel_owed m.kernel (waits m.meta)
 
 -- by so much the transaction of a call raises it at most
 abbrev pub per_transaction : ℕ
-per_transaction = 332
+per_transaction = 814
 
 -- ... and by so much a call, whose blocks may wait
 abbrev pub per_call : ℕ
-per_call = 333
+per_call = 815
 
 -- ---- releases
 

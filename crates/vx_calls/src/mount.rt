@@ -14,7 +14,6 @@ ghost use Rattle.vx_stage.specs.Growths.{IsBusy, IsInUse, IsOver, MayAnswer, May
 ghost use Rattle.vx_dev.specs.Moments.{Told};
 ghost use Rattle.vx_dev.specs.Tape.{State as Device};
 ghost use Rattle.vx_stage.specs.Kernels.{HasRun, IsFit, IsLive, present};
-ghost use Rattle.vx_txn.specs.Calls.{most};
 ghost use Rattle.vx_txn.specs.Metas.{IsSound, IsStateOf, Stands};
 ghost use Rattle.vx_stage.specs.Staged.{has_stage, staged};
 ghost use Rattle.vx_stage.specs.declared.kernel.Job.TheVariants.{Idle, Tail, TailOut, LeaveOut, Broken};
@@ -59,7 +58,7 @@ pub enum Performed {
 
 impl Mount {
     ghost use Rattle.vx_calls.specs.Mounts.{IsAt, IsUsed, MayBegin, Released, LeavesOn};
-    ghost use Rattle.vx_calls.specs.Calls.{IsBuilt, HasFailed, HasPerformed, HasReplied};
+    ghost use Rattle.vx_calls.specs.Calls.{IsBuilt, IsFew, HasFailed, HasPerformed, HasReplied};
     ghost use Rattle.vx_calls.specs.Potentials.{waits, owed, per_transaction, debt, promised, last_events, TurnsBy};
 
     /// A mount that begins now, on the kernel's device.
@@ -382,12 +381,12 @@ impl Mount {
     /// Gathers the sectors of all that is touched.
     fn gather(&mut self)
         requires sound { IsSound self.old.meta }
-        requires few { most self.old.touched ≤ 4 }
+        requires few { IsFew self.old.touched }
         requires empty { self.old.transaction ≡ [] }
         ensures right { (s : State) → Stands self.old.meta s → AllByRecursion (λ e. content_at (volume s.layout) (parsed_of s) e.0 ≡ Some e.1) self.new.transaction }
         ensures whole { (s : State) → Stands self.old.meta s → HasTouched s self.old.touched self.new.transaction }
         ensures inside { (s : State) → Stands self.old.meta s → All (λ e. (2 * (2 + s.layout.log_blocks) ≤ e.0) × (e.0 < 2 * (2 + s.layout.log_blocks + 4096 * s.layout.units))) self.new.transaction }
-        ensures few { length self.new.transaction ≤ 16 }
+        ensures few { length self.new.transaction ≤ 256 }
         ensures none { self.old.touched ≡ untouched → self.new.transaction ≡ [] }
         ensures same { self.new ≡ record self.old { transaction = self.new.transaction } }
     {

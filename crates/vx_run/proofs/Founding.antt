@@ -7,7 +7,7 @@ use Rattle.vx_dev.specs.Moments.{Told}
 use Rattle.vx_dev.specs.Tape as dev
 use Rattle.vx_log.specs.Logs.{LogView, fresh_log}
 use Rattle.vx_model.specs.Legal.{World, in_use, unmounted, opening, after_all}
-use Rattle.vx_model.specs.State.{State, fresh_of}
+use Rattle.vx_model.specs.State.{State, directory_blocks, fresh_of}
 use Rattle.vx_stage.specs.Kernels.{HasRun, IsLive, IsFit, present}
 use Rattle.vx_stage.specs.declared.kernel.Kernel.{Kernel}
 use Rattle.vx_txn.specs.Metas.{IsStateOf}
@@ -22,8 +22,8 @@ pub none_closing : (log : LogView) → log ≡ fresh_log 1024 → IsNone log.clo
 none_closing log is = subst (λ (l : LogView). IsNone l.closing) (sym is) refl
 
 -- what the memory stands for before the first call
-pub meta_new : (count size : ℕ) (k : Kernel) (m : Meta) → k.history.items ≡ [] → IsStateOf m (fresh_of new_super 1 size) → IsStateOf m (present (opening count (fresh_of new_super 1 size)) k)
-meta_new count size k m empty is = subst (λ (h : List Event). IsStateOf m (after_all (opening count (fresh_of new_super 1 size)) h).state) (sym empty) is
+pub meta_new : (count size : ℕ) (k : Kernel) (m : Meta) → k.history.items ≡ [] → IsStateOf m (fresh_of new_super directory_blocks size) → IsStateOf m (present (opening count (fresh_of new_super directory_blocks size)) k)
+meta_new count size k m empty is = subst (λ (h : List Event). IsStateOf m (after_all (opening count (fresh_of new_super directory_blocks size)) h).state) (sym empty) is
 
 module _ (o : World) (room : ℕ) (d : dev.State) (k : Kernel) (m : Mount) (same : m.kernel ≡ k) (empty : k.history.items ≡ []) (owes : debt m ≡ 0) where
   pub none_promised : promised m ≡ 0

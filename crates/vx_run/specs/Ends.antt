@@ -16,7 +16,7 @@ use Rattle.vx_layout.specs.declared.superblock.Super.{Super}
 use Rattle.vx_model.specs.Allowed.{IsAllowed}
 use Rattle.vx_model.specs.Legal.{World, Phase, Legal, opening, unmounted, at_of, after_all}
 use Rattle.vx_model.specs.Replays.{IsLeft}
-use Rattle.vx_model.specs.State.{fresh_of}
+use Rattle.vx_model.specs.State.{directory_blocks, fresh_of}
 use Rattle.vx_mkfs.specs.Formats.{format_operations}
 use Rattle.vx_mount.specs.Cores.{IsDriven, IsUnmounted}
 use Rattle.vx_mount.specs.Runs.{AnswersLines}
@@ -58,7 +58,7 @@ first_of s = s.device.count + format_ops
 
 -- a new file system, whose directories have one block at most
 abbrev pub beginning : Setting → World
-beginning s = opening (first_of s) (fresh_of new_super 1 s.device.size)
+beginning s = opening (first_of s) (fresh_of new_super directory_blocks s.device.size)
 
 -- ---- what it does
 

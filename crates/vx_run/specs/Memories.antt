@@ -2,7 +2,7 @@
 use Rattle.std.specs.Prelude.{◌≡◌, ◌≤◌, ℕ, [], length, vec_capacity}
 use Rattle.vx_core.specs.Tracks.{no_session, session_at}
 use Rattle.vx_log.specs.Logs.{fresh_log}
-use Rattle.vx_model.specs.State.{fresh_of}
+use Rattle.vx_model.specs.State.{directory_blocks, fresh_of}
 use Rattle.vx_model.specs.Touching.{untouched}
 use Rattle.vx_run.specs.Ends.{new_super, free_locks}
 use Rattle.vx_run.specs.declared.memory.Memory.{Memory}
@@ -16,7 +16,7 @@ pub record IsMemory (sessions events : ℕ) (m : Memory) : Type 0 where
   pub ready : m.kernel.ready ≡ []
   pub history : m.kernel.history.items ≡ []
   pub capacity : events ≤ vec_capacity m.kernel.history
-  pub meta : (sectors : ℕ) → IsStateOf m.meta (fresh_of new_super 1 sectors)
+  pub meta : (sectors : ℕ) → IsStateOf m.meta (fresh_of new_super directory_blocks sectors)
   pub touched : m.touched ≡ untouched
   pub transaction : m.transaction ≡ []
   pub locks : m.locks ≡ free_locks

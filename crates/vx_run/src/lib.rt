@@ -2,7 +2,6 @@
 #![tactic(auto)]
 
 mod gate;
-mod laws;
 mod memory;
 mod mounted;
 mod outcome;
@@ -11,7 +10,6 @@ mod top;
 mod words;
 
 pub use gate::{Gate, OpenGate};
-pub use laws::replays_once;
 pub use mounted::Mounted;
 pub use top::{Ran, run};
 

@@ -245,13 +245,49 @@ fn answers(rt: HostRuntime) -> Result<(), Fail> {
     Ok(())
 }
 
-/// A create of a name of 255 times this letter.
-fn long_line(line: &mut Vec<u8>, letter: u8) -> Result<(), AllocError> {
-    line.extend_from_slice(b"0 create /")?;
-    for _n in 0..255 {
-        line.push(letter)?;
+/// A call of one word for a path in a directory, of a name of 255 bytes that has this number.
+fn long_line(
+    line: &mut Vec<u8>,
+    call: &[u8],
+    directory: &[u8],
+    number: u8,
+) -> Result<(), AllocError> {
+    line.extend_from_slice(call)?;
+    line.extend_from_slice(directory)?;
+    for _n in 0..253 {
+        line.push(b'x')?;
     }
-    line.extend_from_slice(b" 644\n")
+    line.push(b'a' + number / 16)?;
+    line.push(b'a' + number % 16)?;
+    line.push(b'\n')?;
+    Ok(())
+}
+
+/// Names of one file that fill the root's 64 blocks, three to each, and one more.
+fn full_directory(alloc: Global) -> Result<Vec<u8>, AllocError> {
+    let mut lines = Vec::new(alloc);
+    lines.extend_from_slice(b"sessions 1\n0 create /a 644\n")?;
+    for number in 0..193u8 {
+        long_line(&mut lines, b"0 link /a /", b"", number)?;
+    }
+    Ok(lines)
+}
+
+/// Two directories that grow by turns, so that each comes to more than six extents, and then go.
+fn scattered_directories(alloc: Global) -> Result<Vec<u8>, AllocError> {
+    let mut lines = Vec::new(alloc);
+    lines.extend_from_slice(b"sessions 1\n0 create /a 644\n0 mkdir /c 755\n0 mkdir /d 755\n")?;
+    for number in 0..24u8 {
+        long_line(&mut lines, b"0 link /a /", b"c/", number)?;
+        long_line(&mut lines, b"0 link /a /", b"d/", number)?;
+    }
+    lines.extend_from_slice(b"0 stat /c\n")?;
+    for number in 0..24u8 {
+        long_line(&mut lines, b"0 unlink /", b"c/", number)?;
+        long_line(&mut lines, b"0 unlink /", b"d/", number)?;
+    }
+    lines.extend_from_slice(b"0 rmdir /c\n0 rmdir /d\n0 list /\n")?;
+    Ok(lines)
 }
 
 /// A create of a name of three bytes.
@@ -280,14 +316,11 @@ fn releases(history: &History) -> bool {
         .any(|event| matches!(event, Event::Release { .. }))
 }
 
-/// Scripts that fill a directory, the inodes and the log, and one whose blocks are used again; with the end of their answers, and
-/// whether blocks that wait are released.
-fn long_scripts(alloc: Global) -> Result<[(Vec<u8>, &'static [u8], bool); 4], AllocError> {
-    let mut names = Vec::new(alloc);
-    names.extend_from_slice(b"sessions 1\n")?;
-    for letter in *b"wxyz" {
-        long_line(&mut names, letter)?;
-    }
+/// Scripts that fill a directory, the inodes and the log, one whose directories have map blocks, and one whose blocks are used again;
+/// with the end of their answers, and whether blocks that wait are released.
+fn long_scripts(alloc: Global) -> Result<[(Vec<u8>, &'static [u8], bool); 5], AllocError> {
+    let names = full_directory(alloc)?;
+    let scattered = scattered_directories(alloc)?;
     let mut inodes = Vec::new(alloc);
     inodes.extend_from_slice(b"sessions 1\n")?;
     for number in 0..126u8 {
@@ -302,8 +335,13 @@ fn long_scripts(alloc: Global) -> Result<[(Vec<u8>, &'static [u8], bool); 4], Al
     Ok([
         (
             names,
-            b"0 3 ok 5\n0 4 no 10 TooBig 2048\ndone calls=4 moves=0 from=0 to=0\n".as_slice(),
+            b"0 193 ok\n0 194 no 10 TooBig 66560\ndone calls=194 moves=0 from=0 to=0\n".as_slice(),
             false,
+        ),
+        (
+            scattered,
+            b"0 101 ok\n0 102 ok\n0 103 ok 1 a\ndone calls=103 moves=0 from=0 to=0\n".as_slice(),
+            true,
         ),
         (
             inodes,

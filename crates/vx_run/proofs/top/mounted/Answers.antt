@@ -6,7 +6,7 @@ use Rattle.vx_dev.specs.Moments.{Told, Always}
 use Rattle.vx_dev.specs.Tape as dev
 use Rattle.vx_model.specs.Allowed.{IsAllowed}
 use Rattle.vx_model.specs.Legal.{World, opening, after_all}
-use Rattle.vx_model.specs.State.{fresh_of}
+use Rattle.vx_model.specs.State.{directory_blocks, fresh_of}
 use Rattle.vx_mount.specs.Cores.{Opening, IsDriven}
 use Rattle.vx_mount.specs.Runs.{TakesLines, AnswersLines}
 use Rattle.vx_mount.specs.Sessions.{is_stopped}
@@ -34,10 +34,10 @@ new-core-requires-clause-room g c =
     let m = c.new-mount.result in
     let room = c.args.room in
     let kernel_is : m.kernel ≡ k = ap (λ (x : Mount). x.kernel) c.new-mount.ensures.same in
-    let owes : debt m ≡ 0 = c.new-mount.ensures.debt (fresh_of new_super 1 d0.size) (c.requires.memory.meta d0.size) (λ b. refl)
+    let owes : debt m ≡ 0 = c.new-mount.ensures.debt (fresh_of new_super directory_blocks d0.size) (c.requires.memory.meta d0.size) (λ b. refl)
     (ap (λ (x : Kernel). x.gathered) c.in-Ok.ensures.same ∙ c.requires.memory.gathered) (ap (λ (x : Kernel). x.homes) c.in-Ok.ensures.same ∙ c.requires.memory.homes)
     (none_closing k.log (ap (λ (x : Kernel). x.log) c.in-Ok.ensures.same ∙ c.requires.memory.log)) in
-    let none = none_promised (opening 0 (fresh_of new_super 1 0)) room d1 k m kernel_is c.in-Ok.ensures.empty owes in
+    let none = none_promised (opening 0 (fresh_of new_super directory_blocks 0)) room d1 k m kernel_is c.in-Ok.ensures.empty owes in
     omega (arith, c.requires.room, none)
 
 pub drive-requires-clause-sound : goal.drive-requires-clause-sound
@@ -48,10 +48,10 @@ drive-requires-clause-sound g c =
     let m = c.new-mount.result in
     let room = c.args.room in
     let kernel_is : m.kernel ≡ k = ap (λ (x : Mount). x.kernel) c.new-mount.ensures.same in
-    let owes : debt m ≡ 0 = c.new-mount.ensures.debt (fresh_of new_super 1 d0.size) (c.requires.memory.meta d0.size) (λ b. refl)
+    let owes : debt m ≡ 0 = c.new-mount.ensures.debt (fresh_of new_super directory_blocks d0.size) (c.requires.memory.meta d0.size) (λ b. refl)
     (ap (λ (x : Kernel). x.gathered) c.in-Ok.ensures.same ∙ c.requires.memory.gathered) (ap (λ (x : Kernel). x.homes) c.in-Ok.ensures.same ∙ c.requires.memory.homes)
     (none_closing k.log (ap (λ (x : Kernel). x.log) c.in-Ok.ensures.same ∙ c.requires.memory.log)) in
-    let world = opening d1.count (fresh_of new_super 1 d0.size) in
+    let world = opening d1.count (fresh_of new_super directory_blocks d0.size) in
     let at : IsAt world d1 m = c.new-mount.ensures.at world d1 c.in-Ok.ensures.run c.in-Ok.ensures.live c.in-Ok.ensures.fit (meta_new d1.count d0.size k c.args.memory.meta c.in-Ok.ensures.empty (c.requires.memory.meta d0.size)) in
     let capacity : room ≤ vec_capacity k.history = subst (λ (x : Kernel). room ≤ vec_capacity x.history) (sym c.in-Ok.ensures.same) c.requires.memory.capacity in
     let small : room < 2 ^ 32 = (let all = all_lines c.args.script c.requires.form in omega (arith, all, c.requires.room)) in
@@ -67,10 +67,10 @@ returns-clause-short g c =
     let m = c.new-mount.result in
     let room = c.args.room in
     let kernel_is : m.kernel ≡ k = ap (λ (x : Mount). x.kernel) c.new-mount.ensures.same in
-    let owes : debt m ≡ 0 = c.new-mount.ensures.debt (fresh_of new_super 1 d0.size) (c.requires.memory.meta d0.size) (λ b. refl)
+    let owes : debt m ≡ 0 = c.new-mount.ensures.debt (fresh_of new_super directory_blocks d0.size) (c.requires.memory.meta d0.size) (λ b. refl)
     (ap (λ (x : Kernel). x.gathered) c.in-Ok.ensures.same ∙ c.requires.memory.gathered) (ap (λ (x : Kernel). x.homes) c.in-Ok.ensures.same ∙ c.requires.memory.homes)
     (none_closing k.log (ap (λ (x : Kernel). x.log) c.in-Ok.ensures.same ∙ c.requires.memory.log)) in
-    let world = opening d1.count (fresh_of new_super 1 d0.size) in
+    let world = opening d1.count (fresh_of new_super directory_blocks d0.size) in
     let at : IsAt world d1 m = c.new-mount.ensures.at world d1 c.in-Ok.ensures.run c.in-Ok.ensures.live c.in-Ok.ensures.fit (meta_new d1.count d0.size k c.args.memory.meta c.in-Ok.ensures.empty (c.requires.memory.meta d0.size)) in
     let capacity : room ≤ vec_capacity k.history = subst (λ (x : Kernel). room ≤ vec_capacity x.history) (sym c.in-Ok.ensures.same) c.requires.memory.capacity in
     let small : room < 2 ^ 32 = (let all = all_lines c.args.script c.requires.form in omega (arith, all, c.requires.room)) in
@@ -90,16 +90,16 @@ returns-clause-ended g c = λ s faults same asks.
     let m = c.new-mount.result in
     let room = c.args.room in
     let kernel_is : m.kernel ≡ k = ap (λ (x : Mount). x.kernel) c.new-mount.ensures.same in
-    let owes : debt m ≡ 0 = c.new-mount.ensures.debt (fresh_of new_super 1 d0.size) (c.requires.memory.meta d0.size) (λ b. refl)
+    let owes : debt m ≡ 0 = c.new-mount.ensures.debt (fresh_of new_super directory_blocks d0.size) (c.requires.memory.meta d0.size) (λ b. refl)
     (ap (λ (x : Kernel). x.gathered) c.in-Ok.ensures.same ∙ c.requires.memory.gathered) (ap (λ (x : Kernel). x.homes) c.in-Ok.ensures.same ∙ c.requires.memory.homes)
     (none_closing k.log (ap (λ (x : Kernel). x.log) c.in-Ok.ensures.same ∙ c.requires.memory.log)) in
-    let world = opening d1.count (fresh_of new_super 1 d0.size) in
+    let world = opening d1.count (fresh_of new_super directory_blocks d0.size) in
     let at : IsAt world d1 m = c.new-mount.ensures.at world d1 c.in-Ok.ensures.run c.in-Ok.ensures.live c.in-Ok.ensures.fit (meta_new d1.count d0.size k c.args.memory.meta c.in-Ok.ensures.empty (c.requires.memory.meta d0.size)) in
     let capacity : room ≤ vec_capacity k.history = subst (λ (x : Kernel). room ≤ vec_capacity x.history) (sym c.in-Ok.ensures.same) c.requires.memory.capacity in
     let small : room < 2 ^ 32 = (let all = all_lines c.args.script c.requires.form in omega (arith, all, c.requires.room)) in
     let keeps1 : Keeps world room m d1 = keeps_new world room d1 k m kernel_is c.in-Ok.ensures.empty owes at capacity small (ap (λ (x : Kernel). x.first) c.in-Ok.ensures.same) refl in
     let count_is : d1.count ≡ first_of s = c.in-Ok.ensures.count ∙ ap (λ (x : dev.State). x.count + 70) (sym same) in
-    let world_is : world ≡ beginning s = ap (λ n. opening n (fresh_of new_super 1 d0.size)) count_is ∙ ap (λ (x : dev.State). opening (first_of s) (fresh_of new_super 1 x.size)) (sym same) in
+    let world_is : world ≡ beginning s = ap (λ n. opening n (fresh_of new_super directory_blocks d0.size)) count_is ∙ ap (λ (x : dev.State). opening (first_of s) (fresh_of new_super directory_blocks x.size)) (sym same) in
     let o : Opening = record { world = beginning s; write_faults = s.device.write_faults; logging = c.args.logging } in
     let faults1 : d1.write_faults ≡ s.device.write_faults = c.in-Ok.ensures.cause.fine ∙ ap (λ (x : dev.State). x.write_faults) (sym same) in
     let mode1 : m.kernel.logging ≡ c.args.logging = ap (λ (x : Kernel). x.logging) kernel_is ∙ ap (λ (x : Kernel). x.logging) c.in-Ok.ensures.same in
