@@ -1,7 +1,8 @@
 -- The checks of a directory's blocks.
 use Rattle.std.proofs.Common.{◌≡◌, ℕ, zero, suc, ◌+◌, ◌<◌, ◌≤◌, Bool, true, false, List, [], ◌∷◌, ◌++◌, length, take, get_or, refl, sym, ap, ap₂, subst, ◌∙◌, inl, inr, arith}
 use Rattle.std.specs.List.{flat_map, AllByRecursion}
-use Rattle.std.proofs.lemmas.List.{append-nil}
+use Rattle.std.specs.Prelude.{map}
+use Rattle.std.proofs.lemmas.List.{append-nil, map-append}
 use Rattle.std.proofs.lemmas.Grind.{flat_map-append}
 use Rattle.vx_base.specs.Paths.{FileName}
 use Rattle.vx_base.specs.declared.inode.DirEntry.{DirEntry}
@@ -118,6 +119,17 @@ module _ (v : Volume) (image : Image) (n : ℕ) (blocks : List ℕ) (are : block
   unfolding entries_of
   read_all k names ts end r =
       r.targets_are ∙ ap (λ (l : List ℕ). targets_of (flat_map (entries_said v image) (take k l))) (sym are) ∙ ap (λ (l : List ℕ). targets_of (flat_map (entries_said v image) l)) (take_all blocks k end ∙ are)
+
+-- ---- the entries of each block
+
+pub listed_more : (f : ℕ → List DirEntry) (blocks : List ℕ) (k b : ℕ) (old new : List (List DirEntry)) (es : List DirEntry) → k < length blocks → get_or blocks k 0 ≡ b → old ≡ map f (take k blocks) → f b ≡ es → new ≡ old ++ es ∷ []
+    → new ≡ map f (take (k + 1) blocks)
+listed_more f blocks k b old new es lt is before here more =
+    let last : es ∷ [] ≡ map f (get_or blocks k 0 ∷ []) = ap (λ (x : List DirEntry). x ∷ []) (sym here ∙ ap f (sym is)) in
+    more ∙ ap₂ (λ (x y : List (List DirEntry)). x ++ y) before last ∙ sym (map-append f (take k blocks) (get_or blocks k 0 ∷ [])) ∙ sym (ap (map f) (take_more blocks k lt))
+
+pub listed_all : (f : ℕ → List DirEntry) (blocks : List ℕ) (k : ℕ) (old : List (List DirEntry)) → length blocks ≤ k → old ≡ map f (take k blocks) → old ≡ map f blocks
+listed_all f blocks k old end is = is ∙ ap (map f) (take_all blocks k end)
 
 -- ---- targets are inodes
 

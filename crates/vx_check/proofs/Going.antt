@@ -11,10 +11,18 @@ use Rattle.vx_check.specs.declared.stop.Stop.TheVariants as stop
 use Rattle.vx_check.specs.Parts.{View, HasRead, IsReadable, Stops}
 
 pub no_read : (a : View) → HasRead a a
-no_read a = record { image = refl; size = refl; deeds = refl; reference = refl; faults = omega arith }
+no_read a = record { seen = λ image h. h; shown = refl; right = λ image is h. h; size = refl; deeds = refl; reference = refl; faults = omega arith }
 
 pub read_on : (a b c : View) → HasRead a b → HasRead b c → HasRead a c
-read_on a b c p q = record { image = q.image ∙ p.image; size = q.size ∙ p.size; deeds = q.deeds ∙ p.deeds; reference = q.reference ∙ p.reference; faults = let x = p.faults in let y = q.faults in omega arith }
+read_on a b c p q = record {
+  seen = λ image h. p.seen image (q.seen image h);
+  shown = q.shown ∙ p.shown;
+  right = λ image is h. q.right image (p.shown ∙ is) (p.right image is h);
+  size = q.size ∙ p.size;
+  deeds = q.deeds ∙ p.deeds;
+  reference = q.reference ∙ p.reference;
+  faults = let x = p.faults in let y = q.faults in omega arith;
+}
 
 pub still_readable : (v : Volume) (a b : View) → HasRead a b → IsReadable v a → IsReadable v b
 still_readable v a b p r = record { volume = r.volume; block = r.block; fits = r.fits; there = let e = p.size in let t = r.there in omega arith }

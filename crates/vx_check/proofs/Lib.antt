@@ -1,4 +1,5 @@
 pub mod Going
+pub mod Laying
 pub mod Marks
 pub mod MapChains
 pub mod Claiming
@@ -13,3 +14,5 @@ pub mod Units
 pub mod OneInode
 pub mod SlotLists
 pub mod Passing
+pub mod Keeping
+pub mod Answering

@@ -150,34 +150,33 @@ chain_end v image n i marks k at chain end c =
     let e : i.maps - k ≡ 0 = omega arith in
     c.chain_is ∙ ap (λ (r : ℕ). chain ++ chain_from v image r at) e ∙ append-nil chain
 
--- ---- with the extents that were read, for some chain
+-- ---- with the extents that were read
 
-pub record IsGoing (v : Volume) (image : Image) (n : ℕ) (i : InodeValue) (marks : List Bool) (k : ℕ) (at : Option ℕ) (old es : List Extent) : Type 0 where
-  pub chain : List ℕ
+pub record IsGoing (v : Volume) (image : Image) (n : ℕ) (i : InodeValue) (marks : List Bool) (k : ℕ) (at : Option ℕ) (old es : List Extent) (chain : List ℕ) : Type 0 where
   pub is : IsChain v image n i marks k at chain
   pub extents_are : es ≡ old ++ flat_map (map_extents v image) chain
 
 module _ (v : Volume) (image : Image) (n : ℕ) (i : InodeValue) (old : List Extent) where
-  pub going_start : (marks : List Bool) → is_some i.map ≡ nat_lt 0 i.maps → AreMarksOf marks (claims_below v image n) → IsGoing v image n i marks 0 i.map old old
-  going_start marks chained marked = record { chain = []; is = chain_start v image n i marks chained marked; extents_are = sym (append-nil old) }
+  pub going_start : (marks : List Bool) → is_some i.map ≡ nat_lt 0 i.maps → AreMarksOf marks (claims_below v image n) → IsGoing v image n i marks 0 i.map old old []
+  going_start marks chained marked = record { is = chain_start v image n i marks chained marked; extents_are = sym (append-nil old) }
 
-  pub going_more : (marks : List Bool) (k b : ℕ) (es : List Extent) → k < i.maps → (g : IsGoing v image n i marks k (Some b) old es) → (m : MapBlock) (new_marks : List Bool) → map_said v image b ≡ m
+  pub going_more : (marks : List Bool) (k b : ℕ) (es : List Extent) (chain : List ℕ) → k < i.maps → IsGoing v image n i marks k (Some b) old es chain → (m : MapBlock) (new_marks : List Bool) → map_said v image b ≡ m
       → is_some m.next ≡ nat_lt (k + 1) i.maps → AreMarksOf new_marks ((claims_below v image n ++ take k (chain_said v image i)) ++ b ∷ [])
-      → ((strict : Bool) → AllByRecursion (Holds strict v image) (map_checks n k)) → (new_es : List Extent) → new_es ≡ es ++ m.extents → IsGoing v image n i new_marks (k + 1) m.next old new_es
-  going_more marks k b es less g m new_marks said next marked found new_es is_es = record {
-    chain = g.chain ++ b ∷ [];
-    is = chain_more v image n i marks k b g.chain less g.is m new_marks said next marked found;
+      → ((strict : Bool) → AllByRecursion (Holds strict v image) (map_checks n k)) → (new_es : List Extent) → new_es ≡ es ++ m.extents → IsGoing v image n i new_marks (k + 1) m.next old new_es (chain ++ b ∷ [])
+  going_more marks k b es chain less g m new_marks said next marked found new_es is_es = record {
+    is = chain_more v image n i marks k b chain less g.is m new_marks said next marked found;
     extents_are =
         let f = map_extents v image in
         let last : f b ≡ m.extents = ap (λ (x : MapBlock). x.extents) said in
-        is_es ∙ ap₂ (λ (x y : List Extent). x ++ y) g.extents_are (sym last) ∙ append_assoc old (flat_map f g.chain) (f b)
-        ∙ ap (λ (x : List Extent). old ++ x) (ap (λ (x : List Extent). flat_map f g.chain ++ x) (sym (append-nil (f b))) ∙ sym (flat_map-append f g.chain (b ∷ [])));
+        is_es ∙ ap₂ (λ (x y : List Extent). x ++ y) g.extents_are (sym last) ∙ append_assoc old (flat_map f chain) (f b)
+        ∙ ap (λ (x : List Extent). old ++ x) (ap (λ (x : List Extent). flat_map f chain ++ x) (sym (append-nil (f b))) ∙ sym (flat_map-append f chain (b ∷ [])));
   }
 
-  pub going_end : (marks : List Bool) (k : ℕ) (at : Option ℕ) (es : List Extent) → k ≡ i.maps → IsGoing v image n i marks k at old es
-      → (es ≡ old ++ flat_map (map_extents v image) (chain_said v image i)) × AreMarksOf marks (claims_below v image n ++ chain_said v image i)
-  going_end marks k at es end g =
-      let whole = chain_end v image n i marks k at g.chain end g.is in (
+  pub going_end : (marks : List Bool) (k : ℕ) (at : Option ℕ) (es : List Extent) (chain : List ℕ) → k ≡ i.maps → IsGoing v image n i marks k at old es chain
+      → (chain ≡ chain_said v image i) × (es ≡ old ++ flat_map (map_extents v image) (chain_said v image i)) × AreMarksOf marks (claims_below v image n ++ chain_said v image i)
+  going_end marks k at es chain end g =
+      let whole = chain_end v image n i marks k at chain end g.is in (
+        sym whole,
         g.extents_are ∙ ap (λ (xs : List ℕ). old ++ flat_map (map_extents v image) xs) (sym whole),
         subst (λ (xs : List ℕ). AreMarksOf marks (claims_below v image n ++ xs)) (sym whole) g.is.marked,
       )

@@ -83,7 +83,7 @@ module _ (v : Volume) (image : Image) where
 
   -- ---- all slots
 
-  said_past : (n : ℕ) → inode_count v ≤ n → inode_said v image n ≡ None
+  pub said_past : (n : ℕ) → inode_count v ≤ n → inode_said v image n ≡ None
   unfolding inode_said
   said_past n far =
       let t : nat_lt n (inode_count v) ≡ false = grind (arith, nat_tests) in

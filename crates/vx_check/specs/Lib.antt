@@ -4,5 +4,8 @@ pub mod Extents
 pub mod Directories
 pub mod Reaching
 pub mod Links
+pub mod Contents
 pub mod Slots
 pub mod Overlays
+pub mod Remembering
+pub mod Loading

@@ -1,5 +1,5 @@
 -- The view of a reader, and what a part of the image check answers.
-use Rattle.std.specs.Prelude.{◌≡◌, ℕ, ◌+◌, ◌*◌, ◌^◌, ◌≤◌, Bool, false, List, length, get_or, Option, Some, Result, Ok, Err}
+use Rattle.std.specs.Prelude.{◌≡◌, ℕ, ◌+◌, ◌*◌, ◌^◌, ◌≤◌, Bool, false, List, length, get_or, Option, Some, None, Result, Ok, Err}
 use Rattle.std.specs.List.{AllByRecursion}
 use Rattle.vx_base.specs.Faults.{Rose}
 use Rattle.vx_dev.specs.Tape.{Tape}
@@ -20,22 +20,35 @@ pub record Deeds : Type 0 where
   pub doubt : List ℕ
   pub write_faults : ℕ
 
--- what a reader reads, where that is known, of how many sectors, how many of its reads failed, what its device has done, and by
--- which reference it holds that device (0 where it holds it by none)
+-- sectors that are known, by number
+abbrev pub Seen : Type 0
+Seen = ℕ → Option (List ℕ)
+
+-- the image has what is known of its sectors (where a reader answers what it likes, it reads no image)
+abbrev pub Agrees : Option Seen → Image → Type 0
+Agrees None image = ⊥
+Agrees (Some seen) image = (s : ℕ) (bytes : List ℕ) → seen s ≡ Some bytes → image s ≡ bytes
+
+-- the image that a reader's device shows, where it shows one; the sectors of which it is known what the reader answers, if it keeps to
+-- what it answered; how many sectors it has; how many of its reads failed; what its device has done; and by which reference it holds
+-- that device (0 where it holds it by none)
 pub record View : Type 0 where
-  pub image : Option Image
+  pub shown : Option Image
+  pub seen : Option Seen
   pub size : ℕ
   pub faults : ℕ
   pub deeds : Deeds
   pub reference : ℕ
 
--- where the image is known
+-- of each image that has what is known
 abbrev pub Known : View → (Image → Type 0) → Type 0
-Known view P = (image : Image) → view.image ≡ Some image → P image
+Known view P = (image : Image) → Agrees view.seen image → P image
 
--- only reads lie between
+-- Only reads lie between: what is known grows, and what is read is what the device shows.
 pub record HasRead (old new : View) : Type 0 where
-  pub image : new.image ≡ old.image
+  pub seen : (image : Image) → Agrees new.seen image → Agrees old.seen image
+  pub shown : new.shown ≡ old.shown
+  pub right : (image : Image) → old.shown ≡ Some image → Agrees old.seen image → Agrees new.seen image
   pub size : new.size ≡ old.size
   pub deeds : new.deeds ≡ old.deeds
   pub reference : new.reference ≡ old.reference
@@ -74,7 +87,7 @@ abbrev pub IsChecked : {T : Type 0} → (strict : Bool) → Volume → Image →
 IsChecked strict v image (Ok x) = IsSound strict v image
 IsChecked strict v image (Err why) = IsStopped strict v image why
 
--- where the image is known, whether inodes without a name are allowed or not
+-- of each image that has what is known, whether inodes without a name are allowed or not
 abbrev pub FindsIn : {T : Type 0} → View → Volume → (Image → List Check) → Result T Stop → Type 0
 FindsIn view v checks result = (strict : Bool) → Known view (λ image. Finds strict v image (checks image) result)
 

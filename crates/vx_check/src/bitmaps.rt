@@ -9,7 +9,7 @@ ghost use Rattle.vx_sound.specs.Said.{Image, inode_count, claims_below};
 ghost use Rattle.vx_sound.specs.Checks.{bitmap_checks};
 ghost use Rattle.vx_check.specs.Parts.{Known, HasRead, IsReadable, HasRoom, FindsIn, IsCause, AreMarksOf};
 
-use crate::reader::Sectors;
+use crate::reader::{Fault, Sectors};
 use crate::stop::Stop;
 use vx_base::SectorNo;
 use vx_codec::write_bits;
@@ -62,19 +62,23 @@ fn check_bitmap<D: Sectors>(
     requires room { HasRoom volume.now marks.now }
     requires unit { u < volume.now.units }
     requires marks { Known (D.view dev.old) (λ image. AreMarksOf marks.now (claims_below volume.now image (inode_count volume.now))) }
-    ensures finds { FindsIn (D.view dev.old) volume.now (λ image. bitmap_checks u) result }
+    ensures finds { FindsIn (D.view dev.new) volume.now (λ image. bitmap_checks u) result }
     ensures read { HasRead (D.view dev.old) (D.view dev.new) }
     ensures cause { IsCause (D.view dev.old) (D.view dev.new) result }
 {
     let sector = volume.bitmap_place(u).get();
-    let Ok(bits) = dev.sector(SectorNo::new(sector)) else {
-        return Err(Stop::ReadFault);
+    let bits = match dev.sector(SectorNo::new(sector)) {
+        Ok(bits) => bits,
+        Err(Fault::Read) => return Err(Stop::ReadFault),
+        Err(Fault::NoMemory) => return Err(Stop::NoMemory),
     };
     if !is_same(&write_bits(&used_blocks(volume, marks, u)), &bits) {
         return Err(Stop::BadMeta { sector });
     }
-    let Ok(rest) = dev.sector(SectorNo::new(sector + 1)) else {
-        return Err(Stop::ReadFault);
+    let rest = match dev.sector(SectorNo::new(sector + 1)) {
+        Ok(rest) => rest,
+        Err(Fault::Read) => return Err(Stop::ReadFault),
+        Err(Fault::NoMemory) => return Err(Stop::NoMemory),
     };
     if !is_same(&rest, &[0; 512]) {
         return Err(Stop::BadMeta { sector });
@@ -91,7 +95,7 @@ pub(crate) fn check_bitmaps<D: Sectors>(
     requires readable { IsReadable volume.now (D.view dev.old) }
     requires room { HasRoom volume.now marks.now }
     requires marks { Known (D.view dev.old) (λ image. AreMarksOf marks.now (claims_below volume.now image (inode_count volume.now))) }
-    ensures finds { FindsIn (D.view dev.old) volume.now (λ image. flat_map bitmap_checks (numbers 0 volume.now.units)) result }
+    ensures finds { FindsIn (D.view dev.new) volume.now (λ image. flat_map bitmap_checks (numbers 0 volume.now.units)) result }
     ensures read { HasRead (D.view dev.old) (D.view dev.new) }
     ensures cause { IsCause (D.view dev.old) (D.view dev.new) result }
 {

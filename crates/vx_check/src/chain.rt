@@ -8,7 +8,7 @@ ghost use Rattle.vx_sound.specs.Checks.{map_checks};
 ghost use Rattle.vx_check.specs.Parts.{Known, HasRead, IsReadable, HasRoom, FindsIn, IsCause, AreMarksOf};
 ghost use Rattle.vx_check.specs.Chains.{next_fits, map_fits, map_extents};
 
-use crate::reader::{Sectors, read_block};
+use crate::reader::{Fault, Sectors, read_block};
 use crate::stop::Stop;
 use std::alloc::{AllocError, Global};
 use vx_base::{Block, Extent, Ino, InodeValue};
@@ -60,10 +60,10 @@ fn check_map<D: Sectors>(
     requires said { Known (D.view dev.old) (λ image. inode_said volume.now image ino ≡ Some value.now) }
     requires at { Known (D.view dev.old) (λ image. b ≡ get_or (chain_said volume.now image value.now) k 0) }
     requires marks { Known (D.view dev.old) (λ image. AreMarksOf marks.old (claims_below volume.now image ino ++ take k (chain_said volume.now image value.now))) }
-    ensures finds { FindsIn (D.view dev.old) volume.now (λ image. map_checks ino k) result }
+    ensures finds { FindsIn (D.view dev.new) volume.now (λ image. map_checks ino k) result }
     ensures next { IfOk result (λ m. is_some m.next ≡ nat_lt (k + 1) value.now.maps) }
-    ensures map { IfOk result (λ m. Known (D.view dev.old) (λ image. map_said volume.now image b ≡ m)) }
-    ensures marks { OnOk result (Known (D.view dev.old) (λ image. AreMarksOf marks.new ((claims_below volume.now image ino ++ take k (chain_said volume.now image value.now)) ++ b ∷ []))) }
+    ensures map { IfOk result (λ m. Known (D.view dev.new) (λ image. map_said volume.now image b ≡ m)) }
+    ensures marks { OnOk result (Known (D.view dev.new) (λ image. AreMarksOf marks.new ((claims_below volume.now image ino ++ take k (chain_said volume.now image value.now)) ++ b ∷ []))) }
     ensures room { HasRoom volume.now marks.new }
     ensures read { HasRead (D.view dev.old) (D.view dev.new) }
     ensures cause { IsCause (D.view dev.old) (D.view dev.new) result }
@@ -78,8 +78,10 @@ fn check_map<D: Sectors>(
     }
     marks[b.get() as usize] = true;
     let sector = volume.block_sector(b).get();
-    let Ok(bytes) = read_block(dev, volume, b) else {
-        return Err(Stop::ReadFault);
+    let bytes = match read_block(dev, volume, b) {
+        Ok(bytes) => bytes,
+        Err(Fault::Read) => return Err(Stop::ReadFault),
+        Err(Fault::NoMemory) => return Err(Stop::NoMemory),
     };
     match read_map::<1024>(alloc, &bytes) {
         Ok(map) => {
@@ -104,7 +106,7 @@ fn add_extents(extents: &mut Vec<Extent>, more: &[Extent]) -> Result<(), AllocEr
     Ok(())
 }
 
-/// All map blocks of an inode, in order; adds their extents.
+/// All map blocks of an inode, in order; adds their extents, and answers where they are.
 pub(crate) fn check_maps<D: Sectors>(
     alloc: Global,
     dev: &mut D,
@@ -113,20 +115,22 @@ pub(crate) fn check_maps<D: Sectors>(
     extents: &mut Vec<Extent>,
     ino: Ino,
     value: &InodeValue,
-) -> Result<(), Stop>
+) -> Result<Vec<Block>, Stop>
     requires readable { IsReadable volume.now (D.view dev.old) }
     requires room { HasRoom volume.now marks.old }
     requires inode { ino < inode_count volume.now }
     requires chained { is_some value.now.map ≡ nat_lt 0 value.now.maps }
     requires said { Known (D.view dev.old) (λ image. inode_said volume.now image ino ≡ Some value.now) }
     requires marks { Known (D.view dev.old) (λ image. AreMarksOf marks.old (claims_below volume.now image ino)) }
-    ensures finds { FindsIn (D.view dev.old) volume.now (λ image. flat_map (map_checks ino) (numbers 0 value.now.maps)) result }
-    ensures extents { OnOk result (Known (D.view dev.old) (λ image. extents.new.items ≡ extents.old.items ++ flat_map (map_extents volume.now image) (chain_said volume.now image value.now))) }
-    ensures marks { OnOk result (Known (D.view dev.old) (λ image. AreMarksOf marks.new (claims_below volume.now image ino ++ chain_said volume.now image value.now))) }
+    ensures finds { FindsIn (D.view dev.new) volume.now (λ image. flat_map (map_checks ino) (numbers 0 value.now.maps)) result }
+    ensures maps { IfOk result (λ maps. Known (D.view dev.new) (λ image. maps.items ≡ chain_said volume.now image value.now)) }
+    ensures extents { OnOk result (Known (D.view dev.new) (λ image. extents.new.items ≡ extents.old.items ++ flat_map (map_extents volume.now image) (chain_said volume.now image value.now))) }
+    ensures marks { OnOk result (Known (D.view dev.new) (λ image. AreMarksOf marks.new (claims_below volume.now image ino ++ chain_said volume.now image value.now))) }
     ensures room { HasRoom volume.now marks.new }
     ensures read { HasRead (D.view dev.old) (D.view dev.new) }
     ensures cause { IsCause (D.view dev.old) (D.view dev.new) result }
 {
+    let mut maps = Vec::new(alloc);
     let mut at = value.map;
     for k in 0..value.maps as u32 {
         let Some(b) = at else { unreachable!() };
@@ -137,9 +141,13 @@ pub(crate) fn check_maps<D: Sectors>(
                     Ok(()) => {}
                     Err(_) => return Err(Stop::NoMemory),
                 }
+                match maps.push(b) {
+                    Ok(()) => {}
+                    Err(_) => return Err(Stop::NoMemory),
+                }
             }
             Err(stop) => return Err(stop),
         }
     }
-    Ok(())
+    Ok(maps)
 }

@@ -1,9 +1,12 @@
 //! The whole check.
-ghost use Rattle.std.specs.Prelude.{◌≡◌, ◌+◌, ◌*◌, ◌<◌, ◌≤◌, [], ℕ, false, IfOk, length};
+ghost use Rattle.std.specs.Prelude.{◌≡◌, ◌+◌, ◌*◌, ◌<◌, ◌≤◌, [], ℕ, true, false, IfOk, length};
 ghost use Rattle.vx_check.specs.Parts.{Known, HasRead, IsReadable, HasRoom, IsCause, AreMarksOf, IsChecked};
+ghost use Rattle.vx_sound.specs.Said.{inode_count};
 ghost use Rattle.vx_check.specs.Links.{AreChildren, AreInodes};
+ghost use Rattle.vx_check.specs.Contents.{AreContents};
 
 use crate::bitmaps::check_bitmaps;
+use crate::contents::Contents;
 use crate::inodes::check_inodes;
 use crate::links::check_links;
 use crate::reaching::Targets;
@@ -24,22 +27,29 @@ pub struct Found {
     pub inodes: Vec<Option<InodeValue>>,
     /// The numbers that each directory's entries name, by the directory's number.
     pub children: Vec<Targets>,
+    /// What the blocks of each inode say, by its number, where that was asked for.
+    pub contents: Vec<Contents>,
 }
 
 /// Checks the metadata of an image in the order of docs/CHECK.md, and answers what they say, or the first fault.
 ///
-/// Where `strict`, a file without a name is a fault. Each sector is read once, one of inodes twice.
+/// Where `strict`, a file without a name is a fault. Where `keep`, what the blocks of inodes say is answered too. Each sector is asked
+/// for once, one of inodes twice.
 pub fn check_metadata<D: Sectors>(
     alloc: Global,
     dev: &mut D,
     volume: &Volume,
     strict: bool,
+    keep: bool,
 ) -> Result<Found, Stop>
     requires readable { IsReadable volume.now (D.view dev.old) }
     requires some { 0 < volume.now.units }
-    ensures finds { Known (D.view dev.old) (λ image. IsChecked strict volume.now image result) }
-    ensures inodes { IfOk result (λ f. Known (D.view dev.old) (AreInodes f.inodes.items volume.now)) }
-    ensures children { IfOk result (λ f. Known (D.view dev.old) (AreChildren f.children.items volume.now)) }
+    ensures finds { Known (D.view dev.new) (λ image. IsChecked strict volume.now image result) }
+    ensures inodes { IfOk result (λ f. Known (D.view dev.new) (AreInodes f.inodes.items volume.now)) }
+    ensures children { IfOk result (λ f. Known (D.view dev.new) (AreChildren f.children.items volume.now)) }
+    ensures contents { keep ≡ true → IfOk result (λ f. Known (D.view dev.new) (AreContents f.contents.items volume.now)) }
+    ensures inodes_count { IfOk result (λ f. length f.inodes.items ≡ inode_count volume.now) }
+    ensures contents_count { keep ≡ true → IfOk result (λ f. length f.contents.items ≡ inode_count volume.now) }
     ensures read { HasRead (D.view dev.old) (D.view dev.new) }
     ensures cause { IsCause (D.view dev.old) (D.view dev.new) result }
 {
@@ -47,7 +57,7 @@ pub fn check_metadata<D: Sectors>(
     let Ok(mut marks) = vec![in alloc; false; blocks] else {
         return Err(Stop::NoMemory);
     };
-    check_unmarked(alloc, dev, volume, &mut marks, strict)
+    check_unmarked(alloc, dev, volume, &mut marks, strict, keep)
 }
 
 /// The check, where no block is marked as claimed.
@@ -57,14 +67,18 @@ fn check_unmarked<D: Sectors>(
     volume: &Volume,
     marks: &mut [bool],
     strict: bool,
+    keep: bool,
 ) -> Result<Found, Stop>
     requires readable { IsReadable volume.now (D.view dev.old) }
     requires some { 0 < volume.now.units }
     requires room { HasRoom volume.now marks.old }
     requires marks { AreMarksOf marks.old [] }
-    ensures finds { Known (D.view dev.old) (λ image. IsChecked strict volume.now image result) }
-    ensures inodes { IfOk result (λ f. Known (D.view dev.old) (AreInodes f.inodes.items volume.now)) }
-    ensures children { IfOk result (λ f. Known (D.view dev.old) (AreChildren f.children.items volume.now)) }
+    ensures finds { Known (D.view dev.new) (λ image. IsChecked strict volume.now image result) }
+    ensures inodes { IfOk result (λ f. Known (D.view dev.new) (AreInodes f.inodes.items volume.now)) }
+    ensures children { IfOk result (λ f. Known (D.view dev.new) (AreChildren f.children.items volume.now)) }
+    ensures contents { keep ≡ true → IfOk result (λ f. Known (D.view dev.new) (AreContents f.contents.items volume.now)) }
+    ensures inodes_count { IfOk result (λ f. length f.inodes.items ≡ inode_count volume.now) }
+    ensures contents_count { keep ≡ true → IfOk result (λ f. length f.contents.items ≡ inode_count volume.now) }
     ensures read { HasRead (D.view dev.old) (D.view dev.new) }
     ensures cause { IsCause (D.view dev.old) (D.view dev.new) result }
 {
@@ -72,18 +86,19 @@ fn check_unmarked<D: Sectors>(
         Ok(slots) => slots,
         Err(stop) => return Err(stop),
     };
-    let children = match check_inodes(alloc, dev, volume, marks, &slots) {
-        Ok(children) => children,
+    let inspection = match check_inodes(alloc, dev, volume, marks, &slots, keep) {
+        Ok(inspection) => inspection,
         Err(stop) => return Err(stop),
     };
-    match check_links(alloc, volume, &slots.values, &children, strict) {
+    match check_links(alloc, volume, &slots.values, &inspection.children, strict) {
         Ok(()) => {}
         Err(stop) => return Err(stop),
     }
     match check_bitmaps(dev, volume, marks) {
         Ok(()) => Ok(Found {
             inodes: slots.values,
-            children,
+            children: inspection.children,
+            contents: inspection.contents,
         }),
         Err(stop) => Err(stop),
     }

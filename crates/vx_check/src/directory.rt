@@ -11,7 +11,7 @@ ghost use Rattle.vx_check.specs.Parts.{View, Known, HasRead, IsReadable, FindsIn
 ghost use Rattle.vx_check.specs.Directories.{AreNamesOf, AreUsed, AreBelow, IsMarked, targets_of};
 
 use crate::names::{NameSet, check_names};
-use crate::reader::{Sectors, read_block};
+use crate::reader::{Fault, Sectors, read_block};
 use crate::stop::Stop;
 use std::alloc::{AllocError, Global};
 use vx_base::{Block, DirEntry, DirValue, Ino};
@@ -45,7 +45,16 @@ fn add_targets(targets: &mut Vec<u32>, entries: &[DirEntry]) -> Result<(), Alloc
     Ok(())
 }
 
-/// The k-th block of a directory: its bytes, its names, and what these mean.
+/// What a directory's blocks say.
+#[derive(Drop)]
+pub(crate) struct Listing {
+    /// The numbers that the entries name.
+    pub targets: Vec<u32>,
+    /// The entries of each block.
+    pub blocks: Vec<DirValue>,
+}
+
+/// The k-th block of a directory: its bytes, its names, and what these mean. Answers its entries.
 fn check_block<D: Sectors>(
     alloc: Global,
     dev: &mut D,
@@ -56,17 +65,18 @@ fn check_block<D: Sectors>(
     ino: Ino,
     k: u32,
     b: Block,
-) -> Result<(), Stop>
+) -> Result<DirValue, Stop>
     requires readable { IsReadable volume.now (D.view dev.old) }
     requires inode { ino < inode_count volume.now }
     requires data { IsTrue (is_data volume.now b) }
     requires used { Known (D.view dev.old) (AreUsed used.now volume.now) }
     requires at { Known (D.view dev.old) (λ image. b ≡ block_at volume.now image ino k) }
     requires names { Known (D.view dev.old) (λ image. AreNamesOf names.old (entries_below volume.now image ino k)) }
-    ensures finds { FindsIn (D.view dev.old) volume.now (λ image. entry_checks ino k) result }
-    ensures names { OnOk result (Known (D.view dev.old) (λ image. AreNamesOf names.new (entries_below volume.now image ino k ++ entries_said volume.now image b))) }
-    ensures targets { OnOk result (Known (D.view dev.old) (λ image. targets.new.items ≡ targets.old.items ++ targets_of (entries_said volume.now image b))) }
+    ensures finds { FindsIn (D.view dev.new) volume.now (λ image. entry_checks ino k) result }
+    ensures names { OnOk result (Known (D.view dev.new) (λ image. AreNamesOf names.new (entries_below volume.now image ino k ++ entries_said volume.now image b))) }
+    ensures targets { OnOk result (Known (D.view dev.new) (λ image. targets.new.items ≡ targets.old.items ++ targets_of (entries_said volume.now image b))) }
     ensures inside { OnOk result (AreBelow (length used.now) targets.old.items → AreBelow (length used.now) targets.new.items) }
+    ensures entries { IfOk result (λ es. Known (D.view dev.new) (λ image. entries_said volume.now image b ≡ es)) }
     ensures read { HasRead (D.view dev.old) (D.view dev.new) }
     ensures cause { IsCause (D.view dev.old) (D.view dev.new) result }
 {
@@ -74,8 +84,10 @@ fn check_block<D: Sectors>(
     dir_spelling();
     let sector = volume.block_sector(b).get();
     let inode_sector = volume.inode_place(ino).0.get();
-    let Ok(bytes) = read_block(dev, volume, b) else {
-        return Err(Stop::ReadFault);
+    let bytes = match read_block(dev, volume, b) {
+        Ok(bytes) => bytes,
+        Err(Fault::Read) => return Err(Stop::ReadFault),
+        Err(Fault::NoMemory) => return Err(Stop::NoMemory),
     };
     match read_dir::<1024>(alloc, &bytes) {
         Ok(value) => match check_names(names, value.as_slice()) {
@@ -86,7 +98,7 @@ fn check_block<D: Sectors>(
                     });
                 }
                 match add_targets(targets, value.as_slice()) {
-                    Ok(()) => Ok(()),
+                    Ok(()) => Ok(value),
                     Err(_) => Err(Stop::NoMemory),
                 }
             }
@@ -98,7 +110,7 @@ fn check_block<D: Sectors>(
     }
 }
 
-/// All blocks of a directory, in order; answers the numbers that its names mean.
+/// All blocks of a directory, in order; answers what they say.
 pub(crate) fn check_directory<D: Sectors>(
     alloc: Global,
     dev: &mut D,
@@ -106,21 +118,23 @@ pub(crate) fn check_directory<D: Sectors>(
     used: &[bool],
     ino: Ino,
     blocks: &[Block],
-) -> Result<Vec<u32>, Stop>
+) -> Result<Listing, Stop>
     requires readable { IsReadable volume.now (D.view dev.old) }
     requires inode { ino < inode_count volume.now }
     requires data { AllByRecursion (λ b. IsTrue (is_data volume.now b)) blocks.now }
     requires few { length blocks.now < 65536 }
     requires used { Known (D.view dev.old) (AreUsed used.now volume.now) }
     requires blocks { Known (D.view dev.old) (λ image. blocks.now ≡ directory_blocks volume.now image (inode_said volume.now image ino)) }
-    ensures finds { FindsIn (D.view dev.old) volume.now (λ image. flat_map (entry_checks ino) (numbers 0 (length blocks.now))) result }
-    ensures targets { IfOk result (λ t. Known (D.view dev.old) (λ image. t.items ≡ targets_of (entries_of volume.now image ino))) }
-    ensures inside { IfOk result (λ t. AreBelow (length used.now) t.items) }
+    ensures finds { FindsIn (D.view dev.new) volume.now (λ image. flat_map (entry_checks ino) (numbers 0 (length blocks.now))) result }
+    ensures targets { IfOk result (λ l. Known (D.view dev.new) (λ image. l.targets.items ≡ targets_of (entries_of volume.now image ino))) }
+    ensures inside { IfOk result (λ l. AreBelow (length used.now) l.targets.items) }
+    ensures blocks { IfOk result (λ l. Known (D.view dev.new) (λ image. l.blocks.items ≡ map (entries_said volume.now image) blocks.now)) }
     ensures read { HasRead (D.view dev.old) (D.view dev.new) }
     ensures cause { IsCause (D.view dev.old) (D.view dev.new) result }
 {
     let mut names = NameSet::new(alloc);
     let mut targets = Vec::new(alloc);
+    let mut listed = Vec::new(alloc);
     for k in 0..blocks.len() as u32 {
         let b = blocks[k as usize];
         match check_block(
@@ -134,9 +148,15 @@ pub(crate) fn check_directory<D: Sectors>(
             k,
             b,
         ) {
-            Ok(()) => {}
+            Ok(entries) => match listed.push(entries) {
+                Ok(()) => {}
+                Err(_) => return Err(Stop::NoMemory),
+            },
             Err(stop) => return Err(stop),
         }
     }
-    Ok(targets)
+    Ok(Listing {
+        targets,
+        blocks: listed,
+    })
 }

@@ -8,8 +8,10 @@ ghost use Rattle.vx_sound.specs.Checks.{value_checks, inode_checks};
 ghost use Rattle.vx_check.specs.Parts.{Known, HasRead, IsReadable, HasRoom, FindsIn, IsCause, AreMarksOf};
 ghost use Rattle.vx_check.specs.Directories.{AreUsed, AreBelow, targets_of};
 ghost use Rattle.vx_check.specs.Slots.{IsSlotRead, slot_fits};
+ghost use Rattle.vx_check.specs.Contents.{contents_said};
 
 use crate::chain::check_maps;
+use crate::contents::Contents;
 use crate::directory::check_directory;
 use crate::extents::check_extents;
 use crate::reader::Sectors;
@@ -70,7 +72,15 @@ fn blocks_of(alloc: Global, extents: &[Extent]) -> Result<Vec<Block>, AllocError
     Ok(blocks)
 }
 
-/// An inode in use; answers the numbers that its names mean.
+/// What a sound inode says.
+#[derive(Drop)]
+pub(crate) struct Inspected {
+    /// The numbers that its names mean.
+    pub targets: Vec<u32>,
+    pub contents: Contents,
+}
+
+/// An inode in use; answers what it says.
 fn check_value<D: Sectors>(
     alloc: Global,
     dev: &mut D,
@@ -79,7 +89,7 @@ fn check_value<D: Sectors>(
     used: &[bool],
     ino: Ino,
     value: &InodeValue,
-) -> Result<Vec<u32>, Stop>
+) -> Result<Inspected, Stop>
     requires readable { IsReadable volume.now (D.view dev.old) }
     requires room { HasRoom volume.now marks.old }
     requires inode { ino < inode_count volume.now }
@@ -87,10 +97,11 @@ fn check_value<D: Sectors>(
     requires said { Known (D.view dev.old) (λ image. inode_said volume.now image ino ≡ Some value.now) }
     requires used { Known (D.view dev.old) (AreUsed used.now volume.now) }
     requires marks { Known (D.view dev.old) (λ image. AreMarksOf marks.old (claims_below volume.now image ino)) }
-    ensures finds { FindsIn (D.view dev.old) volume.now (λ image. value_checks volume.now image ino (Some value.now)) result }
-    ensures marks { OnOk result (Known (D.view dev.old) (λ image. AreMarksOf marks.new (claims_below volume.now image ino ++ (chain_said volume.now image value.now ++ blocks_said volume.now image value.now)))) }
-    ensures targets { IfOk result (λ t. Known (D.view dev.old) (λ image. t.items ≡ targets_of (entries_of volume.now image ino))) }
-    ensures inside { IfOk result (λ t. AreBelow (length used.now) t.items) }
+    ensures finds { FindsIn (D.view dev.new) volume.now (λ image. value_checks volume.now image ino (Some value.now)) result }
+    ensures marks { OnOk result (Known (D.view dev.new) (λ image. AreMarksOf marks.new (claims_below volume.now image ino ++ (chain_said volume.now image value.now ++ blocks_said volume.now image value.now)))) }
+    ensures targets { IfOk result (λ i. Known (D.view dev.new) (λ image. i.targets.items ≡ targets_of (entries_of volume.now image ino))) }
+    ensures inside { IfOk result (λ i. AreBelow (length used.now) i.targets.items) }
+    ensures contents { IfOk result (λ i. Known (D.view dev.new) (λ image. i.contents ≡ contents_said volume.now image (Some value.now))) }
     ensures room { HasRoom volume.now marks.new }
     ensures read { HasRead (D.view dev.old) (D.view dev.new) }
     ensures cause { IsCause (D.view dev.old) (D.view dev.new) result }
@@ -101,25 +112,34 @@ fn check_value<D: Sectors>(
         Ok(()) => {}
         Err(_) => return Err(Stop::NoMemory),
     }
-    match check_maps(alloc, dev, volume, marks, &mut extents, ino, value) {
-        Ok(()) => {}
+    let maps = match check_maps(alloc, dev, volume, marks, &mut extents, ino, value) {
+        Ok(maps) => maps,
         Err(stop) => return Err(stop),
-    }
+    };
     if !check_extents(volume, marks, ino, value, &extents) {
         return Err(Stop::BadMeta { sector });
     }
     match value.inode.kind {
-        FileKind::File => Ok(Vec::new(alloc)),
+        FileKind::File => Ok(Inspected {
+            targets: Vec::new(alloc),
+            contents: Contents::new(maps, extents, Vec::new(alloc)),
+        }),
         FileKind::Directory => {
             let Ok(blocks) = blocks_of(alloc, &extents) else {
                 return Err(Stop::NoMemory);
             };
-            check_directory(alloc, dev, volume, used, ino, &blocks)
+            match check_directory(alloc, dev, volume, used, ino, &blocks) {
+                Ok(listing) => Ok(Inspected {
+                    targets: listing.targets,
+                    contents: Contents::new(maps, extents, listing.blocks),
+                }),
+                Err(stop) => Err(stop),
+            }
         }
     }
 }
 
-/// An inode, in use or not.
+/// An inode, in use or not; answers what it says.
 pub(crate) fn check_inode<D: Sectors>(
     alloc: Global,
     dev: &mut D,
@@ -129,7 +149,7 @@ pub(crate) fn check_inode<D: Sectors>(
     ino: Ino,
     value: &Option<InodeValue>,
     bad: bool,
-) -> Result<Vec<u32>, Stop>
+) -> Result<Inspected, Stop>
     requires readable { IsReadable volume.now (D.view dev.old) }
     requires room { HasRoom volume.now marks.old }
     requires inode { ino < inode_count volume.now }
@@ -137,10 +157,11 @@ pub(crate) fn check_inode<D: Sectors>(
     requires slot { Known (D.view dev.old) (λ image. IsSlotRead volume.now image ino value.now bad) }
     requires used { Known (D.view dev.old) (AreUsed used.now volume.now) }
     requires marks { Known (D.view dev.old) (λ image. AreMarksOf marks.old (claims_below volume.now image ino)) }
-    ensures finds { FindsIn (D.view dev.old) volume.now (λ image. inode_checks volume.now image ino) result }
-    ensures marks { OnOk result (Known (D.view dev.old) (λ image. AreMarksOf marks.new (claims_below volume.now image (ino + 1)))) }
-    ensures targets { IfOk result (λ t. Known (D.view dev.old) (λ image. t.items ≡ targets_of (entries_of volume.now image ino))) }
-    ensures inside { IfOk result (λ t. AreBelow (length used.now) t.items) }
+    ensures finds { FindsIn (D.view dev.new) volume.now (λ image. inode_checks volume.now image ino) result }
+    ensures marks { OnOk result (Known (D.view dev.new) (λ image. AreMarksOf marks.new (claims_below volume.now image (ino + 1)))) }
+    ensures targets { IfOk result (λ i. Known (D.view dev.new) (λ image. i.targets.items ≡ targets_of (entries_of volume.now image ino))) }
+    ensures inside { IfOk result (λ i. AreBelow (length used.now) i.targets.items) }
+    ensures contents { IfOk result (λ i. Known (D.view dev.new) (λ image. i.contents ≡ contents_said volume.now image (inode_said volume.now image ino))) }
     ensures room { HasRoom volume.now marks.new }
     ensures read { HasRead (D.view dev.old) (D.view dev.new) }
     ensures cause { IsCause (D.view dev.old) (D.view dev.new) result }
@@ -150,7 +171,10 @@ pub(crate) fn check_inode<D: Sectors>(
         return Err(Stop::BadMeta { sector });
     }
     match value {
-        None => Ok(Vec::new(alloc)),
+        None => Ok(Inspected {
+            targets: Vec::new(alloc),
+            contents: Contents::none(alloc),
+        }),
         Some(value) => check_value(alloc, dev, volume, marks, used, ino, value),
     }
 }

@@ -1,9 +1,10 @@
 //! A device with a log's after-images laid over it.
-ghost use Rattle.std.specs.Prelude.{◌≡◌, ◌<◌, ◌≤◌, ℕ, IfOk, OnErr};
+ghost use Rattle.std.specs.Prelude.{◌≡◌, ◌<◌, ◌≤◌, ℕ, IfOk, Err};
 ghost use Rattle.vx_base.specs.Faults.{Rose};
+ghost use Rattle.vx_check.specs.declared.reader.Fault.TheVariants.{Read};
 ghost use Rattle.vx_check.specs.Parts.{Known, HasRead, IsReadable, IsCause, IsChecked};
 ghost use Rattle.vx_check.specs.Links.{AreChildren, AreInodes};
-ghost use Rattle.vx_check.specs.Overlays.{overlaid};
+ghost use Rattle.vx_check.specs.Overlays.{Shown, overlaid};
 
 use crate::check::{Found, check_metadata};
 use crate::reader::{Fault, Sectors};
@@ -15,7 +16,7 @@ use vx_home::Homes;
 use vx_layout::Volume;
 use vx_log::note_laws;
 
-/// The sectors of a device, where each that is noted has its after-image.
+/// The sectors of a device, where each that is noted has its after-image. Nothing is known of them where the device shows no image.
 #[derive(Drop)]
 struct Overlaid<'d, 'h, D: BlockDev> {
     dev: &'d mut D,
@@ -37,7 +38,7 @@ fn sector_of<D: BlockDev>(dev: &mut D, homes: &Homes, s: SectorNo) -> Result<[u8
     requires { s < (D.state dev.old).size }
     ensures bytes { IfOk result (λ x. Known (overlaid (D.state dev.old) homes.now) (λ image. image s ≡ x)) }
     ensures read { HasRead (overlaid (D.state dev.old) homes.now) (overlaid (D.state dev.new) homes.now) }
-    ensures cause { OnErr result (Rose (D.state dev.old).read_faults (D.state dev.new).read_faults) }
+    ensures cause { result ≡ Err Read → Rose (D.state dev.old).read_faults (D.state dev.new).read_faults }
 {
     // The proof rests on this law and on what a length tells; nothing else runs here.
     note_laws();
@@ -48,7 +49,7 @@ fn sector_of<D: BlockDev>(dev: &mut D, homes: &Homes, s: SectorNo) -> Result<[u8
     let mut bytes = [0; 512];
     match dev.read(s.get() as u64, &mut bytes) {
         Ok(()) => Ok(bytes),
-        Err(_) => Err(Fault),
+        Err(_) => Err(Fault::Read),
     }
 }
 
@@ -62,12 +63,12 @@ pub fn check_overlaid<D: BlockDev>(
 ) -> Result<Found, Stop>
     requires readable { IsReadable volume.now (overlaid (D.state dev.old) homes.now) }
     requires some { 0 < volume.now.units }
-    ensures finds { Known (overlaid (D.state dev.old) homes.now) (λ image. IsChecked strict volume.now image result) }
-    ensures inodes { IfOk result (λ f. Known (overlaid (D.state dev.old) homes.now) (AreInodes f.inodes.items volume.now)) }
-    ensures children { IfOk result (λ f. Known (overlaid (D.state dev.old) homes.now) (AreChildren f.children.items volume.now)) }
+    ensures finds { Shown (D.state dev.old) homes.now (λ image. IsChecked strict volume.now image result) }
+    ensures inodes { IfOk result (λ f. Shown (D.state dev.old) homes.now (AreInodes f.inodes.items volume.now)) }
+    ensures children { IfOk result (λ f. Shown (D.state dev.old) homes.now (AreChildren f.children.items volume.now)) }
     ensures read { HasRead (overlaid (D.state dev.old) homes.now) (overlaid (D.state dev.new) homes.now) }
     ensures cause { IsCause (overlaid (D.state dev.old) homes.now) (overlaid (D.state dev.new) homes.now) result }
 {
     let mut sectors = Overlaid { dev, homes };
-    check_metadata(alloc, &mut sectors, volume, strict)
+    check_metadata(alloc, &mut sectors, volume, strict, false)
 }

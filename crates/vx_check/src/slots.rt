@@ -6,7 +6,7 @@ ghost use Rattle.vx_sound.specs.Said.{inode_count};
 ghost use Rattle.vx_check.specs.Parts.{Known, HasRead, IsReadable, FindsIn, IsCause};
 ghost use Rattle.vx_check.specs.Slots.{IsSlotRead, AreSlotsRead, HaveForms, AreLong};
 
-use crate::reader::Sectors;
+use crate::reader::{Fault, Sectors};
 use crate::stop::Stop;
 use std::alloc::Global;
 use vx_base::{Ino, InodeValue};
@@ -25,13 +25,15 @@ fn read_slot<D: Sectors>(dev: &mut D, volume: &Volume, ino: Ino) -> Result<Slot,
     requires readable { IsReadable volume.now (D.view dev.old) }
     requires inode { ino < inode_count volume.now }
     ensures is { IfOk result (λ s. IsSlot layout1 s.value) }
-    ensures slot { IfOk result (λ s. Known (D.view dev.old) (λ image. IsSlotRead volume.now image ino s.value s.bad)) }
-    ensures finds { FindsIn (D.view dev.old) volume.now (λ _. []) result }
+    ensures slot { IfOk result (λ s. Known (D.view dev.new) (λ image. IsSlotRead volume.now image ino s.value s.bad)) }
+    ensures finds { FindsIn (D.view dev.new) volume.now (λ _. []) result }
     ensures read { HasRead (D.view dev.old) (D.view dev.new) }
     ensures cause { IsCause (D.view dev.old) (D.view dev.new) result }
 {
-    let Ok(sector) = dev.sector(volume.inode_place(ino).0) else {
-        return Err(Stop::ReadFault);
+    let sector = match dev.sector(volume.inode_place(ino).0) {
+        Ok(sector) => sector,
+        Err(Fault::Read) => return Err(Stop::ReadFault),
+        Err(Fault::NoMemory) => return Err(Stop::NoMemory),
     };
     match read_inode(&sector, ino.get() % 2) {
         Ok(value) => Ok(Slot { value, bad: false }),
@@ -63,8 +65,8 @@ pub(crate) fn read_slots<D: Sectors>(
     ensures forms { IfOk result (λ s. HaveForms s.values.items) }
     ensures long { IfOk result (λ s. AreLong (inode_count volume.now) s.values.items s.bad.items s.used.items) }
     // No check is made yet.
-    ensures finds { FindsIn (D.view dev.old) volume.now (λ _. []) result }
-    ensures slots { IfOk result (λ s. Known (D.view dev.old) (λ image. AreSlotsRead volume.now image (inode_count volume.now) s.values.items s.bad.items s.used.items)) }
+    ensures finds { FindsIn (D.view dev.new) volume.now (λ _. []) result }
+    ensures slots { IfOk result (λ s. Known (D.view dev.new) (λ image. AreSlotsRead volume.now image (inode_count volume.now) s.values.items s.bad.items s.used.items)) }
     ensures read { HasRead (D.view dev.old) (D.view dev.new) }
     ensures cause { IsCause (D.view dev.old) (D.view dev.new) result }
 {

@@ -5,7 +5,7 @@ use super::*;
 use std::alloc::{AllocError, Global};
 use std::test::Fail;
 use vx_base::{
-    Block, ExtAttrs, Extent, FileKind, Inode, InodeValue, Kind, NumList, Page, SectorNo,
+    Block, ExtAttrs, Extent, FileKind, Ino, Inode, InodeValue, Kind, NumList, Page, SectorNo,
 };
 use vx_codec::{inode_sector, write_bits};
 use vx_dev::{BlockDev, Image, MemDisk};
@@ -30,7 +30,7 @@ struct Memory {
 impl Sectors for Memory {
     ghost use Rattle.std.specs.Prelude.{◌^◌, [], None};
 
-    ghost view = { λ _. record { image = None; size = 2 ^ 32; faults = 0; deeds = record { told = None; count = 0; doubt = []; write_faults = 0 }; reference = 0 } };
+    ghost view = { λ _. record { shown = None; seen = None; size = 2 ^ 32; faults = 0; deeds = record { told = None; count = 0; doubt = []; write_faults = 0 }; reference = 0 } };
 
     fn sector(&mut self, s: SectorNo) -> Result<[u8; 512], Fault> {
         for (at, bytes) in &self.sectors {
@@ -123,7 +123,7 @@ fn volume() -> Volume
 }
 
 fn checked(alloc: Global, image: &mut Memory, strict: bool) -> Result<Found, Stop> {
-    check_metadata(alloc, image, &volume(), strict)
+    check_metadata(alloc, image, &volume(), strict, false)
 }
 
 /// A disk of zeros.
@@ -217,5 +217,43 @@ fn notes_over_a_disk(rt: HostRuntime) -> Result<(), Fail> {
     let whole = check_overlaid(rt.alloc(), &mut disk, &homes, &volume(), true);
     assert!(rt; whole.is_ok());
     assert_eq!(rt; disk.ops(), 0);
+    Ok(())
+}
+
+// What stands on the disk is the image: the root's block has the entry of inode 3.
+#[test]
+fn metadata_of_a_disk(rt: HostRuntime) -> Result<(), Fail> {
+    let mut disk = disk(rt.alloc())?;
+    // The check needs all sectors of the unit.
+    assert_eq!(rt; disk.sectors(), 9_220);
+    assert!(rt; disk.write(u64::from(BITMAP), &bitmap()).is_ok());
+    assert!(rt; disk.write(u64::from(INODES), &inodes(1)).is_ok());
+    assert!(rt; disk.write(u64::from(NAMES), &names()).is_ok());
+    let found = match read_metadata(rt.alloc(), &mut disk, &volume()) {
+        Ok(found) => found,
+        Err(stop) => panic!(rt; "stopped: {stop:?}"),
+    };
+    assert_eq!(rt; found.inodes.len(), 128);
+    assert_eq!(rt; found.contents.len(), 128);
+    match found.contents.get(2) {
+        Some(root) => {
+            assert_eq!(rt; root.maps().len(), 0);
+            assert_eq!(rt; root.extents().len(), 1);
+            assert_eq!(rt; root.blocks().len(), 1);
+            for block in root.blocks() {
+                assert_eq!(rt; block.len(), 1);
+                for entry in block.as_slice() {
+                    assert_eq!(rt; entry.ino, Ino::new(3));
+                    assert_eq!(rt; entry.name.as_slice(), b"a".as_slice());
+                }
+            }
+        }
+        None => panic!(rt; "no root"),
+    }
+    // No write came with it, and none is missed: an inode's sector that is bent is refused.
+    assert_eq!(rt; disk.ops(), 3);
+    assert!(rt; disk.write(u64::from(INODES), &inodes(2)).is_ok());
+    let bent = read_metadata(rt.alloc(), &mut disk, &volume());
+    assert_eq!(rt; sector_named(bent), Some(INODES));
     Ok(())
 }

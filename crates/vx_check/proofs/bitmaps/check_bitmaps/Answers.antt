@@ -1,4 +1,4 @@
-use Rattle.std.proofs.Common.{◌≡◌, ◌<◌, ℕ, sym, subst, ◌∙◌, arith}
+use Rattle.std.proofs.Common.{◌≡◌, ◌<◌, ℕ, subst, arith}
 use Rattle.std.specs.List.{flat_map, AllByRecursion}
 use Rattle.vx_sound.specs.FirstFault.{numbers}
 use Rattle.vx_sound.specs.Checks.{Holds, bitmap_checks}
@@ -13,17 +13,17 @@ pub check_bitmap-requires-clause-readable : goal.check_bitmap-requires-clause-re
 check_bitmap-requires-clause-readable g c = still_readable c.args.volume.now (g.D.Sectors.view c.args.dev.now) (g.D.Sectors.view c.loop-u.dev) c.loop-u.invariant.read c.requires.readable
 
 pub check_bitmap-requires-clause-marks : goal.check_bitmap-requires-clause-marks
-check_bitmap-requires-clause-marks g c = λ image now. c.requires.marks image (sym c.loop-u.invariant.read.image ∙ now)
+check_bitmap-requires-clause-marks g c = λ image now. c.requires.marks image (c.loop-u.invariant.read.seen image now)
 
 pub returns-in-Err-clause-finds : goal.returns-in-Err-clause-finds
 returns-in-Err-clause-finds g c = λ strict image known.
     let less : c.loop-u.u < c.args.volume.now.units = omega arith in
-    stops_at strict c.args.volume.now image bitmap_checks c.args.volume.now.units c.loop-u.u c.in-Err.stop less (c.loop-u.invariant.known strict image known) (c.in-Err.ensures.finds strict image (c.loop-u.invariant.read.image ∙ known))
+    stops_at strict c.args.volume.now image bitmap_checks c.args.volume.now.units c.loop-u.u c.in-Err.stop less (c.loop-u.invariant.known strict image (c.check_bitmap.ensures.read.seen image known)) (c.in-Err.ensures.finds strict image known)
 
 pub loop-u-preserved : goal.loop-u-preserved
 loop-u-preserved g c = record {
   read = read_on (g.D.Sectors.view c.args.dev.now) (g.D.Sectors.view c.loop-u.dev) (g.D.Sectors.view c.check_bitmap.new.dev) c.loop-u.invariant.read c.check_bitmap.ensures.read;
-  known = λ strict image known. faults.more_from_0 (Holds strict c.args.volume.now image) bitmap_checks c.loop-u.u (c.loop-u.invariant.known strict image known) (c.in-Ok.ensures.finds strict image (c.loop-u.invariant.read.image ∙ known));
+  known = λ strict image known. faults.more_from_0 (Holds strict c.args.volume.now image) bitmap_checks c.loop-u.u (c.loop-u.invariant.known strict image (c.check_bitmap.ensures.read.seen image known)) (c.in-Ok.ensures.finds strict image known);
 }
 
 pub returns-clause-finds : goal.returns-clause-finds

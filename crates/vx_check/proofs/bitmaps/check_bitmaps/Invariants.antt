@@ -8,5 +8,5 @@ use Rattle.vx_check.proofs.bitmaps.check_bitmaps.Given as goal
 abbrev pub invariant-loop-u : goal.invariant-loop-u
 invariant-loop-u g l = record {
   read : HasRead (g.D.Sectors.view l.fn.dev) (g.D.Sectors.view l.dev);
-  known : (strict : Bool) → Known (g.D.Sectors.view l.fn.dev) (λ image. AllByRecursion (Holds strict l.volume image) (flat_map bitmap_checks (numbers 0 l.u)));
+  known : (strict : Bool) → Known (g.D.Sectors.view l.dev) (λ image. AllByRecursion (Holds strict l.volume image) (flat_map bitmap_checks (numbers 0 l.u)));
 }

@@ -52,11 +52,11 @@ returns-then-map_fits-clause-finds g c = λ strict image known.
     let block = c.requires.readable.block in
     let d : is_data v c.args.b ≡ true = first_of (search rules, grind (arith, common_steps)) in
     let free : get_or c.args.marks.now c.args.b false ≡ false = subst (λ (x : ℕ). get_or c.args.marks.now x false ≡ false) c.get.ensures c.if-marks-get.false in
-    let new = sym ((c.requires.marks image known) c.args.b) ∙ free in
+    let new = sym ((c.requires.marks image (c.read_block.ensures.read.seen image known)) c.args.b) ∙ free in
     let is : IsMap v.block m = subst (λ (s : ℕ). IsMap s m) (sym block) c.in-Ok-read_map.ensures.found.0 in
     let spelled : block_bytes v image c.args.b ≡ map_bytes v.block m = sym (c.in-Ok.ensures.bytes image known) ∙ c.in-Ok-read_map.ensures.found.1 ∙ ap (λ (s : ℕ). map_bytes s m) (sym block) in
     let fits : map_fits v c.args.ino c.args.k c.args.value.now m ≡ true = sym (c.map_fits.ensures v block) ∙ c.if-map_fits.true in
-    good_map strict v image c.args.ino c.args.k c.args.value.now c.args.b (c.requires.said image known) (c.requires.at image known) m d new is spelled (c.in-Ok.ensures.whole image known) fits
+    good_map strict v image c.args.ino c.args.k c.args.value.now c.args.b (c.requires.said image (c.read_block.ensures.read.seen image known)) (c.requires.at image (c.read_block.ensures.read.seen image known)) m d new is spelled (c.in-Ok.ensures.whole image known) fits
 
 pub returns-then-map_fits-clause-map : goal.returns-then-map_fits-clause-map
 returns-then-map_fits-clause-map g c = λ image known.
@@ -76,7 +76,7 @@ returns-then-map_fits-clause-marks g c = λ image known.
     let low = data_below c.args.volume.now c.args.b d in
     let room = c.requires.room in
     let inside : c.args.b < length c.args.marks.now = omega arith in
-    subst (λ (x : ℕ). AreMarksOf (set c.args.marks.now x true) (before ++ c.args.b ∷ [])) (sym c.get-2.ensures) (marks_more c.args.marks.now before c.args.b inside (c.requires.marks image known))
+    subst (λ (x : ℕ). AreMarksOf (set c.args.marks.now x true) (before ++ c.args.b ∷ [])) (sym c.get-2.ensures) (marks_more c.args.marks.now before c.args.b inside (c.requires.marks image (c.read_block.ensures.read.seen image known)))
 
 pub returns-else-map_fits-clause-finds : goal.returns-else-map_fits-clause-finds
 returns-else-map_fits-clause-finds g c = λ strict image known.
@@ -85,12 +85,12 @@ returns-else-map_fits-clause-finds g c = λ strict image known.
     let block = c.requires.readable.block in
     let d : is_data v c.args.b ≡ true = first_of (search rules, grind (arith, common_steps)) in
     let free : get_or c.args.marks.now c.args.b false ≡ false = subst (λ (x : ℕ). get_or c.args.marks.now x false ≡ false) c.get.ensures c.if-marks-get.false in
-    let new = sym ((c.requires.marks image known) c.args.b) ∙ free in
+    let new = sym ((c.requires.marks image (c.read_block.ensures.read.seen image known)) c.args.b) ∙ free in
     let is : IsMap v.block m = subst (λ (s : ℕ). IsMap s m) (sym block) c.in-Ok-read_map.ensures.found.0 in
     let spelled : block_bytes v image c.args.b ≡ map_bytes v.block m = sym (c.in-Ok.ensures.bytes image known) ∙ c.in-Ok-read_map.ensures.found.1 ∙ ap (λ (s : ℕ). map_bytes s m) (sym block) in
     let misfits : map_fits v c.args.ino c.args.k c.args.value.now m ≡ false = sym (c.map_fits.ensures v block) ∙ c.if-map_fits.false in
     let few : v.block ≤ 65536 = omega arith in
-    bad_form strict v image c.args.ino c.args.k c.args.value.now c.args.b (c.requires.said image known) (c.requires.at image known) c.get-sector.result (c.get-sector.ensures ∙ c.block_sector.ensures) d new
+    bad_form strict v image c.args.ino c.args.k c.args.value.now c.args.b (c.requires.said image (c.read_block.ensures.read.seen image known)) (c.requires.at image (c.read_block.ensures.read.seen image known)) c.get-sector.result (c.get-sector.ensures ∙ c.block_sector.ensures) d new
     (λ other is_other said fits.
     let same : m ≡ other = c.map_spelling.ensures.unique v.block m other few is is_other (sym spelled ∙ said) in
     let bad : true ≡ false = sym fits ∙ sym (ap (map_fits v c.args.ino c.args.k c.args.value.now) same) ∙ misfits in
@@ -102,8 +102,8 @@ returns-in-Err-Bad-clause-finds g c = λ strict image known.
     let block = c.requires.readable.block in
     let d : is_data v c.args.b ≡ true = first_of (search rules, grind (arith, common_steps)) in
     let free : get_or c.args.marks.now c.args.b false ≡ false = subst (λ (x : ℕ). get_or c.args.marks.now x false ≡ false) c.get.ensures c.if-marks-get.false in
-    let new = sym ((c.requires.marks image known) c.args.b) ∙ free in
-    bad_form strict v image c.args.ino c.args.k c.args.value.now c.args.b (c.requires.said image known) (c.requires.at image known) c.get-sector.result (c.get-sector.ensures ∙ c.block_sector.ensures) d new
+    let new = sym ((c.requires.marks image (c.read_block.ensures.read.seen image known)) c.args.b) ∙ free in
+    bad_form strict v image c.args.ino c.args.k c.args.value.now c.args.b (c.requires.said image (c.read_block.ensures.read.seen image known)) (c.requires.at image (c.read_block.ensures.read.seen image known)) c.get-sector.result (c.get-sector.ensures ∙ c.block_sector.ensures) d new
     (λ m is said fits.
     let low : IsMap 1024 m = subst (λ (s : ℕ). IsMap s m) block is in
     let text = c.in-Ok.ensures.bytes image known ∙ said ∙ ap (λ (s : ℕ). map_bytes s m) block in

@@ -9,5 +9,5 @@ invariant-loop-k g l = record {
   read : HasRead (g.D.Sectors.view l.fn.dev) (g.D.Sectors.view l.dev);
   room : HasRoom l.volume l.marks;
   more : is_some l.at ≡ nat_lt l.k l.value.maps;
-  known : Known (g.D.Sectors.view l.fn.dev) (λ image. IsGoing l.volume image l.ino l.value l.marks l.k l.at l.fn.extents.items l.extents.items);
+  known : Known (g.D.Sectors.view l.dev) (λ image. IsGoing l.volume image l.ino l.value l.marks l.k l.at l.fn.extents.items l.extents.items l.maps.items);
 }

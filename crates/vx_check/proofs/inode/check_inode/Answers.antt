@@ -42,7 +42,7 @@ pub returns-in-Some-clause-finds : goal.returns-in-Some-clause-finds
 returns-in-Some-clause-finds g c = λ strict image known.
     let good : c.args.bad ≡ false = first_of (search rules, grind (arith, common_steps)) in
     let fine : c.slot_fits.result ≡ true = first_of (search rules, grind (arith, common_steps)) in
-    used_finds c.args.volume.now image c.args.ino c.args.value.now c.args.bad (c.requires.slot image known) c.requires.is strict good
+    used_finds c.args.volume.now image c.args.ino c.args.value.now c.args.bad (c.requires.slot image (c.check_value.ensures.read.seen image known)) c.requires.is strict good
     (sym c.slot_fits.ensures ∙ fine) c.in-Some.value c.in-Some.is c.check_value.result (c.check_value.ensures.finds strict image known)
 
 pub returns-in-Some-clause-marks : goal.returns-in-Some-clause-marks
@@ -50,9 +50,9 @@ returns-in-Some-clause-marks g c =
     let v = c.args.volume.now in
     let n = c.args.ino in
     let i = c.in-Some.value in
-    on_ok (Known (g.D.Sectors.view c.args.dev.now) (λ image. AreMarksOf c.check_value.new.marks (claims_below v image n ++ (chain_said v image i ++ blocks_said v image i))))
-    (Known (g.D.Sectors.view c.args.dev.now) (λ image. AreMarksOf c.check_value.new.marks (claims_below v image (n + 1)))) c.check_value.result
+    on_ok (Known (g.D.Sectors.view c.check_value.new.dev) (λ image. AreMarksOf c.check_value.new.marks (claims_below v image n ++ (chain_said v image i ++ blocks_said v image i))))
+    (Known (g.D.Sectors.view c.check_value.new.dev) (λ image. AreMarksOf c.check_value.new.marks (claims_below v image (n + 1)))) c.check_value.result
     (λ h image known.
-    let said : inode_said v image n ≡ Some i = (c.requires.slot image known).said ∙ c.in-Some.is in
+    let said : inode_said v image n ≡ Some i = (c.requires.slot image (c.check_value.ensures.read.seen image known)).said ∙ c.in-Some.is in
     subst (AreMarksOf c.check_value.new.marks) (sym (claims_next v image n ∙ ap (λ (o : Option InodeValue). claims_below v image n ++ claimed_by v image o) said)) (h image known))
     c.check_value.ensures.marks

@@ -1,4 +1,4 @@
-use Rattle.std.proofs.Common.{rules, ◌≡◌, ◌++◌, ◌∷◌, [], ℕ, sym, subst, ◌∙◌, arith}
+use Rattle.std.proofs.Common.{rules, ◌≡◌, ◌++◌, ◌∷◌, [], ℕ, sym, subst, arith}
 use Rattle.std.proofs.lemmas.Grind.{common_steps}
 use Rattle.std.specs.Prelude.{is_some}
 use Rattle.vx_sound.specs.Said.{inode_count}
@@ -22,9 +22,9 @@ loop-n-preserved g c =
       long = next_long n c.loop-n.values.items c.loop-n.bad.items c.loop-n.used.items o c.in-Ok.slot.bad c.is_some.result c.push.new.self.items c.push-in-Ok.new.self.items c.push-in-Ok-2.new.self.items p q r c.loop-n.invariant.long;
       forms = subst HaveForms (sym p) (forms_more c.loop-n.values.items o c.loop-n.invariant.forms c.in-Ok.ensures.is);
       known = λ image known.
-          let slot : IsSlotRead v image n o c.in-Ok.slot.bad = subst (λ (m : ℕ). IsSlotRead v image m o c.in-Ok.slot.bad) c.new.ensures (c.in-Ok.ensures.slot image (c.loop-n.invariant.read.image ∙ known)) in
+          let slot : IsSlotRead v image n o c.in-Ok.slot.bad = subst (λ (m : ℕ). IsSlotRead v image m o c.in-Ok.slot.bad) c.new.ensures (c.in-Ok.ensures.slot image known) in
           next_slots v image n c.loop-n.values.items c.loop-n.bad.items c.loop-n.used.items o c.in-Ok.slot.bad c.is_some.result c.push.new.self.items c.push-in-Ok.new.self.items c.push-in-Ok-2.new.self.items p q r is c.loop-n.invariant.long
-          (c.loop-n.invariant.known image known) slot;
+          (c.loop-n.invariant.known image (c.read_slot.ensures.read.seen image known)) slot;
     }
 
 pub returns-clause-slots : goal.returns-clause-slots
@@ -33,4 +33,4 @@ returns-clause-slots g c = λ image known.
     subst (λ (k : ℕ). AreSlotsRead c.args.volume.now image k c.loop-n.values.items c.loop-n.bad.items c.loop-n.used.items) end (c.loop-n.invariant.known image known)
 
 pub returns-in-Err-clause-finds : goal.returns-in-Err-clause-finds
-returns-in-Err-clause-finds g c = λ strict image known. c.in-Err.ensures.finds strict image (c.loop-n.invariant.read.image ∙ known)
+returns-in-Err-clause-finds g c = λ strict image known. c.in-Err.ensures.finds strict image known

@@ -7,5 +7,5 @@ invariant-loop-n g l = record {
   read : HasRead (g.D.Sectors.view l.fn.dev) (g.D.Sectors.view l.dev);
   long : AreLong l.n l.values.items l.bad.items l.used.items;
   forms : HaveForms l.values.items;
-  known : Known (g.D.Sectors.view l.fn.dev) (λ image. AreSlotsRead l.volume image l.n l.values.items l.bad.items l.used.items);
+  known : Known (g.D.Sectors.view l.dev) (λ image. AreSlotsRead l.volume image l.n l.values.items l.bad.items l.used.items);
 }
