@@ -1,4 +1,4 @@
-mod Free
+pub mod Free
 mod Placing
 pub mod Pages
 mod Gone
@@ -6,3 +6,4 @@ mod Gives
 mod Runs
 mod Settled
 mod InSpace
+mod Loads

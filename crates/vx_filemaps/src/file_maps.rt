@@ -1,9 +1,10 @@
 //! A file's maps in memory.
-ghost use Rattle.std.specs.Prelude.{◌≡◌, ◌+◌, ◌^◌, ◌<◌, ◌≤◌, IfErr, Ok, OnErr, OnOk, []};
+ghost use Rattle.std.specs.Prelude.{◌≡◌, ◌+◌, ◌++◌, ◌∷◌, ◌^◌, ◌<◌, ◌≤◌, IfErr, Ok, OnErr, OnOk, []};
 ghost use Rattle.vx_alloc.specs.FreeMaps.{FreeMapView};
 ghost use Rattle.vx_extents.specs.Extents.{mapped_at};
 ghost use Rattle.vx_extents.specs.Uses.{data_pages};
 ghost use Rattle.vx_filemaps.specs.FileMaps.{HasTaken, IsReady, IsRefusal, IsRequest, filling_of, volume_in};
+ghost use Rattle.vx_filemaps.specs.Loads.{IsNext, with_extent};
 ghost use Rattle.vx_filemaps.specs.Settles.{CanGo, CanWait, none_at, pended, reserved_at, settled_file, surplus_in, without_pages};
 ghost use Rattle.vx_space.specs.Leaving.{cut_space};
 ghost use Rattle.vx_space.specs.Placing.{Request, place_fill};
@@ -11,10 +12,10 @@ ghost use Rattle.vx_space.specs.Space.{no_space};
 
 use crate::place::{PlaceRefusal, give_back, place_all};
 use crate::settle::{give_reserved, give_up_pages, pend_chain, settle_pages};
-use std::alloc::Global;
+use std::alloc::{AllocError, Global};
 use std::marker::Model;
 use vx_alloc::FreeMap;
-use vx_base::{Block, Kind, Page};
+use vx_base::{Block, Extent, Kind, Page};
 use vx_extents::{ExtentMap, chain_len};
 
 /// How many extents there is room for while a call places pages: those of the largest file, and two for each of 65 pages.
@@ -81,6 +82,29 @@ impl FileMaps {
             chain: Vec::new(alloc),
             size: 0,
         }
+    }
+
+    /// Takes an extent that the device says, behind the pages that are there, as pages that are there now; a settle has the device say
+    /// them here too. Unchanged where memory is short.
+    pub fn load_extent(&mut self, extent: &Extent) -> Result<(), AllocError>
+        requires { IsNext self.old.space.present extent.now }
+        ensures ok { OnOk result (self.new ≡ with_extent self.old extent.now) }
+        ensures err { OnErr result (self.new ≡ self.old) }
+    {
+        self.settled.reserve(self.present.extents() + 1)?;
+        self.present.reserve(1)?;
+        self.present
+            .put_run(extent.page, extent.start, extent.len, extent.kind);
+        Ok(())
+    }
+
+    /// Takes the chain's next map block, as the device says it. Unchanged where memory is short.
+    pub fn load_map(&mut self, block: Block) -> Result<(), AllocError>
+        ensures ok { OnOk result (self.new ≡ record self.old { maps = self.old.maps ++ block ∷ [] }) }
+        ensures err { OnErr result (self.new ≡ self.old) }
+    {
+        self.chain.push(block)?;
+        Ok(())
     }
 
     /// The block of a page as it is now, and its kind.

@@ -2,7 +2,7 @@
 use super::*;
 use std::test::Fail;
 use vx_alloc::FreeMap;
-use vx_base::{Block, Kind, Page, Refusal};
+use vx_base::{Block, Extent, Kind, Page, Refusal};
 
 #[test]
 fn two_files_in_turn(rt: HostRuntime) -> Result<(), Fail> {
@@ -39,5 +39,33 @@ fn nothing_changes_where_space_is_short(rt: HostRuntime) -> Result<(), Fail> {
     assert!(rt; refused == Err(want));
     assert_eq!(rt; free.free(), 3);
     assert!(rt; a.find(Page::new(4060)).is_none());
+    Ok(())
+}
+
+#[test]
+fn extents_and_map_blocks_are_loaded(rt: HostRuntime) -> Result<(), Fail> {
+    let mut a = FileMaps::new(rt.alloc());
+    let first = Extent {
+        page: Page::new(0),
+        start: Block::new(600),
+        len: 3,
+        kind: Kind::Data,
+    };
+    let second = Extent {
+        page: Page::new(3),
+        start: Block::new(700),
+        len: 2,
+        kind: Kind::Data,
+    };
+    a.load_extent(&first)?;
+    a.load_extent(&second)?;
+    a.load_map(Block::new(900))?;
+    a.load_map(Block::new(555))?;
+    assert!(rt; a.find(Page::new(2)) == Some((Block::new(602), Kind::Data)));
+    assert!(rt; a.find(Page::new(4)) == Some((Block::new(701), Kind::Data)));
+    assert!(rt; a.find(Page::new(5)).is_none());
+    assert_eq!(rt; a.present().extents(), 2);
+    assert_eq!(rt; a.chain().len(), 2);
+    assert!(rt; a.chain()[1] == Block::new(555));
     Ok(())
 }

@@ -1,34 +1,30 @@
 -- What the sectors of directories' blocks and of map blocks have.
 use Rattle.std.proofs.Common.{◌≡◌, ℕ, zero, suc, ◌+◌, ◌*◌, ◌<◌, ◌≤◌, ◌^◌, true, List, [], ◌∷◌, ◌++◌, length, take, drop, set, get_or, Option, Some, None, refl, sym, ap, subst, ◌∙◌, arith}
 use Rattle.std.specs.Prelude.{IsTrue, IfSome, slice_get}
-use Rattle.std.specs.Option.{option_map, option_and_then}
+use Rattle.std.specs.Option.{option_map}
 use Rattle.std.proofs.lemmas.Bool.Decides.{nat_tests}
 use Rattle.std.proofs.lemmas.List.{length-drop, take_all}
 use Rattle.std.proofs.lemmas.Option.{none-some, same_Some, slice_get_past}
 use Rattle.vx_base.specs.declared.inode.DirEntry.{DirEntry}
 use Rattle.vx_base.specs.declared.inode.Extent.{Extent}
 use Rattle.vx_extents.specs.Extents.{Mapped, stretches}
-use Rattle.vx_layout.specs.Dirs.{dir_bytes, IsDir}
 use Rattle.vx_layout.specs.LogForms.{AfterImage}
-use Rattle.vx_layout.specs.Maps.{IsMap, MapBlock, map_bytes}
 use Rattle.vx_layout.specs.Places.{Volume, block_sector, is_data, sector_part}
 use Rattle.vx_log.specs.Batches.{batch_set}
 use Rattle.vx_model.specs.Contents.{parsed_of}
 use Rattle.vx_model.specs.Images.{content_at, sectors_in}
 use Rattle.vx_model.specs.LaidOut.{IsLaidOut}
-use Rattle.vx_model.specs.Layout.{Claim, Claimed, DirectoryBlock, blocks_at, chain_at, chain_of, claim_of, pages_from, settled_at, settled_maps, volume}
-use Rattle.vx_model.specs.Saying.{StateSays}
+use Rattle.vx_model.specs.Layout.{Claimed, DirectoryBlock, blocks_at, chain_at, chain_of, pages_from, settled_at, settled_maps, volume}
 use Rattle.vx_model.specs.State.{State}
 use Rattle.vx_space.specs.Space.{maps_for, page_blocks}
 use Rattle.vx_txn.specs.Directories.{DirectoryValue, placed}
-use Rattle.vx_txn.specs.Metas.{directory_of, Stands, IsSound}
+use Rattle.vx_txn.specs.Metas.{directory_of, Stands}
 use Rattle.vx_txn.specs.Staged.{IsRight, Adds, HasBlock, HasMaps, with_parts}
 use Rattle.vx_txn.specs.declared.meta.Meta.{Meta}
 use Rattle.vx_txn.proofs.Gains.{Has, still_has, adds_more, adds_set, has_new}
 use Rattle.vx_txn.proofs.Settled.{blocks_few, extents_few, maps_few, maps_settled, settled_here}
 use Rattle.vx_txn.proofs.StateLaws.{blocks_here, directory_here, maps_here, nothing_here}
 use Rattle.vx_txn.proofs.EntryLaws.{placed_get}
-use Rattle.vx_txn.proofs.UnitSectors.{is_volume}
 
 -- ---- both sectors of a block
 

@@ -1,12 +1,12 @@
 -- What a call leaves and answers.
-use Rattle.std.proofs.Common.{◌≡◌, ℕ, ◌+◌, ◌≤◌, List, [], ◌∷◌, ◌++◌, length, Option, Some, None, Ok, Err, refl, sym, ◌∙◌, ap, subst, arith, Bool, true, false, cond, map, inl, inr}
+use Rattle.std.proofs.Common.{◌≡◌, ℕ, ◌+◌, ◌≤◌, List, [], ◌∷◌, length, Option, Some, None, Ok, Err, refl, sym, ◌∙◌, ap, subst, arith, Bool, true, false, cond, inl, inr}
 use Rattle.std.specs.Prelude.{Result, IfOk, is_some}
 use Rattle.std.specs.Option.{option_map}
-use Rattle.std.specs.List.{count_by, position_or_len, slice_get, sum_by}
+use Rattle.std.specs.List.{count_by, position_or_len}
 use Rattle.std.specs.Ordering.{nat_cmp}
 use Rattle.std.specs.Cmp.Lexicographic.{slice_cmp, nat_list_cmp_total}
 use Rattle.std.specs.FinMap as map
-use Rattle.std.proofs.lemmas.Bool.{cases_lt, cases_Bool}
+use Rattle.std.proofs.lemmas.Bool.{cases_Bool}
 use Rattle.std.proofs.lemmas.Option.{slice_get_past}
 use Rattle.std.proofs.lemmas.Slice.Eq.{bytes_eq-Decides}
 use Rattle.vx_base.specs.Paths.{FileName}
@@ -17,10 +17,10 @@ use Rattle.vx_base.specs.declared.reply.Reply.TheVariants as say
 use Rattle.vx_dir.specs.Sizes.{Entries}
 use Rattle.vx_dir.specs.Directories.{Directory as Names, IsKept, all_entries, entry_count, is_named, place_of, inode_in}
 use Rattle.vx_model.specs.Outcome.{Maybe}
-use Rattle.vx_model.specs.Reads.{entries_from, name_to_inode}
-use Rattle.vx_model.specs.State.{State, Done, settled}
+use Rattle.vx_model.specs.Reads.{entries_from}
+use Rattle.vx_model.specs.State.{State, Done}
 use Rattle.vx_model.specs.Touching.{Touched, IsTouched, untouched}
-use Rattle.vx_txn.specs.Calls.{HasGone, IsDone, IsSettled}
+use Rattle.vx_txn.specs.Calls.{HasGone, IsSettled}
 use Rattle.vx_txn.specs.Metas.{Stands}
 use Rattle.vx_txn.specs.Replies.{FitsReply, IsShort, IsSound}
 use Rattle.vx_txn.specs.declared.meta.Meta.{Meta}

@@ -1,17 +1,16 @@
 -- The metadata and their state after a change at one number.
-use Rattle.std.proofs.Common.{◌≡◌, ◌≢◌, ℕ, ◌+◌, ◌*◌, ◌<◌, ◌≤◌, Bool, true, false, List, [], ◌∷◌, ◌++◌, length, Option, Some, None, refl, sym, ◌∙◌, ap, subst, arith, inl, inr, append-nil}
-use Rattle.std.specs.Option.{option_map}
+use Rattle.std.proofs.Common.{◌≡◌, ◌≢◌, ℕ, ◌+◌, ◌*◌, [], ◌∷◌, ◌++◌, length, Option, Some, None, refl, sym, ◌∙◌, ap, subst, inl, inr, append-nil}
 use Rattle.std.specs.FinMap as map
 use Rattle.std.proofs.lemmas.Bool.{cases_eq}
 use Rattle.vx_alloc.specs.FreeMaps.{FreeMapView, is_free as is_free_block, place_of}
 use Rattle.vx_base.proofs.Maps.{at_key, at_other}
 use Rattle.vx_base.specs.declared.inode.Inode.{Inode}
-use Rattle.vx_inode.specs.Tables.{Table, inode_at, with_inode, with_change, changed_from, without_inode}
+use Rattle.vx_inode.specs.Tables.{Table, inode_at, with_inode, with_change, changed_from}
 use Rattle.vx_model.specs.EditLaws.{EditLaws}
 use Rattle.vx_model.specs.Edits.{set_node}
 use Rattle.vx_model.specs.LaidOut.{IsLaidOut}
-use Rattle.vx_model.specs.Contents.{Held, settled_of}
-use Rattle.vx_model.specs.Layout.{Layout, DirectoryBlock, blocks_at, maps_at, space_at, is_free}
+use Rattle.vx_model.specs.Contents.{settled_of}
+use Rattle.vx_model.specs.Layout.{Layout, blocks_at, maps_at, space_at, is_free}
 use Rattle.vx_model.specs.State.{State}
 use Rattle.vx_model.specs.Touching.{Touched, IsTouched, joined, inode_touched, entries_touched}
 use Rattle.vx_model.specs.Tree.{Node}

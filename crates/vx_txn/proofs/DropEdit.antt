@@ -1,29 +1,23 @@
 -- An inode less, whose blocks wait.
-use Rattle.std.proofs.Common.{◌≡◌, ◌≢◌, ℕ, zero, suc, ◌+◌, ◌*◌, ◌<◌, ◌≤◌, Bool, true, false, cond, not, ◌&&◌, List, [], ◌∷◌, ◌++◌, length, Option, Some, None, refl, sym, ◌∙◌, ap, subst, arith, inl, inr, length-append, append-nil}
-use Rattle.std.specs.Prelude.{◌==◌, is_none, nat_lt}
-use Rattle.std.specs.Option.{option_map}
-use Rattle.std.specs.FinMap as map
+use Rattle.std.proofs.Common.{◌≡◌, ◌≢◌, ℕ, ◌*◌, ◌<◌, ◌≤◌, Bool, true, false, cond, not, List, [], ◌∷◌, ◌++◌, length, Option, Some, None, refl, sym, ◌∙◌, ap, subst, arith, inl, inr, length-append, append-nil}
+use Rattle.std.specs.Prelude.{is_none}
 use Rattle.std.proofs.lemmas.Bool.{cases_Bool, cases_eq, cases_lt, eq-eqb, ne_eqb, and_left, and_right, lt-ltb, ltb-true}
 use Rattle.std.proofs.lemmas.List.{length-map}
-use Rattle.std.proofs.lemmas.Option.{none-some}
-use Rattle.vx_alloc.specs.FreeMaps.{FreeMapView, place_of, is_used as is_used_block, is_free as is_free_block}
+use Rattle.vx_alloc.specs.FreeMaps.{FreeMapView, is_free as is_free_block}
 use Rattle.vx_base.specs.declared.inode.Inode.{Inode}
 use Rattle.vx_extents.specs.Extents.{Mapped}
 use Rattle.vx_filemaps.specs.GiveLaws.{AreUsed, AreWaiting, GiveLaws, IsSized}
 use Rattle.vx_filemaps.specs.Settles.{CanWait, pended}
 use Rattle.vx_inode.proofs.Counts.{removed, kept}
 use Rattle.vx_inode.specs.Tables.{Table, inode_at, without_inode}
-use Rattle.vx_layout.specs.Places.{is_data}
 use Rattle.vx_model.specs.Contents.{settled_of}
 use Rattle.vx_model.specs.EditLaws.{EditLaws}
 use Rattle.vx_model.specs.Edits.{drop_node}
 use Rattle.vx_model.specs.Images.{among}
-use Rattle.vx_model.specs.LaidOut.{IsHeld, HasNothing, Owns}
-use Rattle.vx_model.specs.Layout as layout
+use Rattle.vx_model.specs.LaidOut.{Owns}
 use Rattle.vx_model.specs.Layout.{Layout, volume, blocks_at, block_numbers, maps_at, space_at, owned, is_owned, is_free, freed, given_up, pages_from}
 use Rattle.vx_model.specs.State.{State}
-use Rattle.vx_model.specs.Touching.{Touched, IsTouched, joined, drop_touched, units_of}
-use Rattle.vx_model.specs.Tree.{Node, IsFile, IsDirectory}
+use Rattle.vx_model.specs.Touching.{Touched, drop_touched, units_of}
 use Rattle.vx_space.specs.Space.{no_space, page_blocks}
 use Rattle.vx_space.specs.Uses.{uses}
 use Rattle.vx_txn.specs.Calls.{HasGone}

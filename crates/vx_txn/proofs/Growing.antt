@@ -1,10 +1,10 @@
 -- A name more in a new last block of a directory.
-use Rattle.std.proofs.Common.{◌≡◌, ◌≢◌, ℕ, zero, suc, ◌+◌, ◌-◌, ◌*◌, ◌/◌, ◌<◌, ◌≤◌, max, Bool, true, false, cond, not, ◌&&◌, List, [], ◌∷◌, ◌++◌, map, length, drop, Option, Some, None, Ok, Err, refl, sym, ◌∙◌, ap, subst, arith, inl, inr, length-append, length-drop, set, get_or, lit≤}
-use Rattle.std.specs.Prelude.{◌==◌, ◌||◌, is_none, nat_le, nat_lt}
+use Rattle.std.proofs.Common.{◌≡◌, ◌≢◌, ℕ, ◌+◌, ◌-◌, ◌*◌, ◌<◌, ◌≤◌, max, Bool, true, false, cond, not, List, [], ◌∷◌, ◌++◌, length, drop, Option, Some, None, Ok, Err, refl, sym, ◌∙◌, ap, subst, arith, inl, inr, length-append, length-drop, set, get_or, lit≤}
+use Rattle.std.specs.Prelude.{◌==◌, is_none, nat_le, nat_lt}
 use Rattle.std.specs.Option.{unwrap_or}
 use Rattle.std.specs.FinMap as map
 use Rattle.std.specs.List.{position_or_len}
-use Rattle.std.proofs.lemmas.Bool.{cases_Bool, cases_eq, cases_lt, eq-eqb, eqb-true, ne_eqb, lt-ltb, le-ltb, le-leb, and_left, and_right, and_parts}
+use Rattle.std.proofs.lemmas.Bool.{cases_Bool, cases_eq, eq-eqb, ne_eqb, lt-ltb, le-ltb, le-leb, and_left, and_right, and_parts}
 use Rattle.std.proofs.lemmas.List.{length-map}
 use Rattle.vx_alloc.specs.FreeMaps.{FreeMapView, free_blocks, place_of, is_free as is_free_block}
 use Rattle.vx_base.proofs.Maps.{at_key, at_other}
@@ -15,42 +15,40 @@ use Rattle.vx_base.specs.declared.inode.Inode.{Inode}
 use Rattle.vx_base.specs.declared.kind.FileKind.TheVariants as kind
 use Rattle.vx_base.specs.declared.refusal.Refusal.{Refusal}
 use Rattle.vx_base.specs.declared.refusal.Refusal.TheVariants as no
-use Rattle.vx_dir.specs.Sizes.{Entries}
 use Rattle.vx_dir.specs.Directories.{Directory as Names, inode_of, blocks_with, has_place, has_room as fits}
 use Rattle.vx_base.specs.declared.kind.Kind.{Kind}
 use Rattle.vx_extents.specs.Extents.{Mapped, mapped_at, with_page}
-use Rattle.vx_filemaps.specs.FileMaps.{IsFor, IsFileIn, IsRequest, IsRefusal, HasTaken, IsReady, filling_of, volume_in}
+use Rattle.vx_filemaps.specs.FileMaps.{IsFor, IsFileIn, HasTaken, IsReady, filling_of}
 use Rattle.vx_filemaps.specs.Files.{FileView}
 use Rattle.vx_filemaps.specs.declared.place.PlaceRefusal.{PlaceRefusal}
 use Rattle.vx_filemaps.specs.declared.place.PlaceRefusal.TheVariants as refusal
-use Rattle.vx_inode.specs.Tables.{Table, inode_at, with_inode, with_change}
-use Rattle.vx_layout.specs.Places.{Volume, is_data}
+use Rattle.vx_inode.specs.Tables.{inode_at, with_inode, with_change}
+use Rattle.vx_layout.specs.Places.{Volume}
 use Rattle.vx_model.specs.Contents.{settled_of}
 use Rattle.vx_model.specs.EditLaws.{EditLaws}
 use Rattle.vx_model.specs.Edits.{with_nodes, with_name, add_name}
 use Rattle.vx_model.specs.Images.{among}
-use Rattle.vx_model.specs.LaidOut.{IsLaidOut, Owns}
-use Rattle.vx_model.specs.Layout.{Layout, DirectoryBlock, volume, blocks_at, block_numbers, maps_at, space_at, is_free, is_owned, owned, pages_from, directory_filling, directory_request, next_block, block_of_page, with_last, with_new_block, add_entry, room_place}
+use Rattle.vx_model.specs.LaidOut.{Owns}
+use Rattle.vx_model.specs.Layout.{Layout, DirectoryBlock, volume, blocks_at, block_numbers, maps_at, space_at, is_free, owned, pages_from, directory_filling, directory_request, next_block, block_of_page, with_last, add_entry, room_place}
 use Rattle.vx_model.specs.Outcome.{Maybe, ◌>>=◌, unless}
 use Rattle.vx_model.specs.State.{State}
-use Rattle.vx_model.specs.Touching.{Touched, IsTouched, joined, entries_touched, name_touched, new_blocks, units_of}
-use Rattle.vx_model.specs.Tree.{Node, Tree, IsDirectory, no_attrs}
+use Rattle.vx_model.specs.Touching.{Touched, IsTouched, joined, entries_touched, new_blocks, units_of}
+use Rattle.vx_model.specs.Tree.{Tree, IsDirectory, no_attrs}
 use Rattle.vx_space.specs.Laws.{PlaceLaws}
-use Rattle.vx_space.specs.Placing.{Filling, Request, block_of, missing_in, place_fill, request_of}
-use Rattle.vx_space.specs.Space.{Space, no_space, page_blocks, maps_for, maps_needed}
+use Rattle.vx_space.specs.Placing.{Filling, Request, block_of, place_fill, request_of}
+use Rattle.vx_space.specs.Space.{Space, no_space, page_blocks, maps_for}
 use Rattle.vx_space.specs.Uses.{IsGrown, blocks_in as used_blocks, uses}
 use Rattle.vx_txn.specs.Calls.{HasGone}
 use Rattle.vx_txn.specs.Directories.{DirectoryValue, IsDirectory as HasShape, placed, blocks_in, maps_in}
 use Rattle.vx_txn.specs.Edits.{HasGrown, IsEdited, IsFull, IsGrownTo, IsRefused, IsWanted, blocks_past, refusal_of, units_from, place_answer}
 use Rattle.vx_txn.specs.Metas.{HasDirectory, directory_of, IsStateOf, Stands}
-use Rattle.vx_txn.specs.declared.edits.EditRefusal.{EditRefusal}
 use Rattle.vx_txn.specs.declared.edits.EditRefusal.TheVariants as edit
 use Rattle.vx_txn.specs.declared.meta.Meta.{Meta}
 use Rattle.vx_txn.proofs.Changes.{FreeAfter, edited, set_change, set_here, change_at, next_gone}
 use Rattle.vx_txn.proofs.Claims.{free_is, owned_below, same_free}
 use Rattle.vx_txn.proofs.NameEdits.{place_in, place_most, stands, own, answered_place, more_room, not_filled, named_by, refused_by, laid_out_named, numbers_placed, room_is, with_here, with_other}
-use Rattle.vx_txn.proofs.NextPage.{IsNext, IsPlaceRefusal, next_is, next_refused, page_of, none_behind, last_there, behind_last, pages_append, placed_append}
-use Rattle.vx_txn.proofs.Settled.{blocks_few, length_placed, one_map, page_blocks_from, pages_here}
+use Rattle.vx_txn.proofs.NextPage.{IsNext, next_is, next_refused, page_of, none_behind, last_there, behind_last, pages_append, placed_append}
+use Rattle.vx_txn.proofs.Settled.{length_placed, one_map, pages_here}
 use Rattle.vx_txn.proofs.StateLaws.{inode_of_node, inode_of_option, DirectoryHere, directory_here, blocks_here, maps_here}
 
 -- ---- what is used

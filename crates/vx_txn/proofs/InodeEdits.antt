@@ -1,7 +1,6 @@
 -- Edits of an inode.
-use Rattle.std.proofs.Common.{◌≡◌, ◌≢◌, ℕ, ◌+◌, ◌-◌, ◌*◌, ◌<◌, ◌≤◌, false, List, [], ◌∷◌, ◌++◌, Option, Some, None, refl, sym, ◌∙◌, ap, subst, arith}
+use Rattle.std.proofs.Common.{◌≡◌, ◌≢◌, ℕ, ◌+◌, ◌-◌, ◌<◌, ◌≤◌, false, [], ◌∷◌, ◌++◌, Option, Some, None, refl, sym, ◌∙◌, ap, subst, arith}
 use Rattle.std.specs.FinMap as map
-use Rattle.std.proofs.lemmas.Option.{same_Some}
 use Rattle.vx_base.specs.declared.inode.Inode.{Inode}
 use Rattle.std.specs.Prelude.{Result, Ok, OnOk, ◌==◌}
 use Rattle.std.proofs.lemmas.Bool.{ne_eqb}
@@ -11,12 +10,12 @@ use Rattle.vx_inode.specs.Tables.{inode_at, with_inode, with_change, links_at, l
 use Rattle.vx_model.specs.EditLaws.{EditLaws}
 use Rattle.vx_model.specs.Edits.{set_node}
 use Rattle.vx_model.specs.Contents.{Held, settled_of}
-use Rattle.vx_model.specs.LaidOut.{IsHeld, IsPlainFile, IsDirectoryNode}
+use Rattle.vx_model.specs.LaidOut.{IsHeld, IsDirectoryNode}
 use Rattle.vx_model.specs.Legal.{IfThere}
 use Rattle.vx_model.specs.Naming.{with_mode}
 use Rattle.vx_model.specs.State.{State}
-use Rattle.vx_model.specs.Touching.{Touched, joined, inode_touched}
-use Rattle.vx_model.specs.Tree.{Node, File, Directory, IsFile, IsDirectory}
+use Rattle.vx_model.specs.Touching.{Touched, inode_touched}
+use Rattle.vx_model.specs.Tree.{Node, File, IsFile, IsDirectory}
 use Rattle.vx_txn.specs.Calls.{HasGone}
 use Rattle.vx_txn.specs.Directories.{blocks_in, maps_in}
 use Rattle.vx_txn.specs.Metas.{HasDirectory, directory_of, IsStateOf}

@@ -28,3 +28,6 @@ pub mod Renaming
 pub mod Gains
 pub mod UnitSectors
 pub mod BlockSectors
+pub mod Loading
+pub mod LoadingDirectories
+pub mod OnceNamed

@@ -1,8 +1,8 @@
 -- The names of a directory, in the order of their bytes, are the keys of its map.
-use Rattle.std.proofs.Common.{◌≡◌, ℕ, zero, suc, ◌+◌, ◌<◌, ◌≤◌, Bool, true, false, cond, ◌&&◌, List, [], ◌∷◌, ◌++◌, map, length, get_or, Option, Some, None, Ok, refl, sym, ◌∙◌, ap, subst, arith, inl, inr, append-nil}
+use Rattle.std.proofs.Common.{◌≡◌, ℕ, suc, ◌+◌, ◌<◌, ◌≤◌, Bool, true, false, cond, List, [], ◌∷◌, map, length, get_or, Option, Some, None, Ok, refl, sym, ◌∙◌, ap, subst, arith, inl, inr}
 use Rattle.std.specs.Prelude.{is_some, bytes_eq, ◌||◌}
-use Rattle.std.specs.Option.{option_map, unwrap_or}
-use Rattle.std.specs.List.{count_by, list_any, flat_map}
+use Rattle.std.specs.Option.{unwrap_or}
+use Rattle.std.specs.List.{count_by, list_any}
 use Rattle.std.specs.List.Sorted.{IsPermutation, IsSorted, IsSortedBy}
 use Rattle.std.specs.Ordering.{nat_cmp, eq_by_cmp, is_lt, is_eq, ordering_reverse}
 use Rattle.std.specs.declared.cmp.Ordering.{Ordering}
@@ -14,16 +14,15 @@ use Rattle.std.specs.FinMap.Entries as rows
 use Rattle.std.specs.Prelude.{T}
 use Rattle.std.proofs.lemmas.Bool.{cases_Bool, and_from}
 use Rattle.std.proofs.lemmas.Slice.Eq.{bytes_eq-Decides}
-use Rattle.std.proofs.lemmas.List.Sums.{sum_by-cons, get_or-le-sum_by}
+use Rattle.std.proofs.lemmas.List.Sums.{sum_by-cons}
 use Rattle.std.proofs.lemmas.List.Sorted.{ranks_by, sorted_far, sum_by-IsPermutation, list_any-IsPermutation}
 use Rattle.vx_base.specs.Paths.{FileName}
 use Rattle.vx_base.specs.declared.inode.DirEntry.{DirEntry}
-use Rattle.vx_base.specs.declared.refusal.Refusal.TheVariants as no
 use Rattle.vx_base.specs.declared.reply.Reply.TheVariants as say
 use Rattle.vx_dir.specs.Sizes.{Entries}
-use Rattle.vx_dir.specs.Directories.{Directory as Names, IsKept, AreNames, all_entries, inode_in, is_named}
+use Rattle.vx_dir.specs.Directories.{IsKept, AreNames, all_entries, inode_in, is_named}
 use Rattle.vx_model.specs.Naming.{list_at}
-use Rattle.vx_model.specs.Outcome.{Maybe, ◌>>=◌, need}
+use Rattle.vx_model.specs.Outcome.{Maybe, ◌>>=◌}
 use Rattle.vx_model.specs.Reads.{entries_from, name_to_inode}
 use Rattle.vx_model.specs.State.{State}
 use Rattle.vx_model.specs.Touching.{untouched}

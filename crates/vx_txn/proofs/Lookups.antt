@@ -1,5 +1,5 @@
 -- What stands at an inode number, and what an edit leaves there.
-use Rattle.std.proofs.Common.{◌≡◌, ◌≢◌, ℕ, ◌+◌, ◌*◌, ◌<◌, ◌≤◌, Bool, false, arith, cond, List, [], ◌∷◌, ◌++◌, length, append-nil, ◌⊎◌, inl, inr, map as list_map, true, Option, Some, None, Result, Ok, Err, refl, sym, ◌∙◌, ap, subst}
+use Rattle.std.proofs.Common.{◌≡◌, ◌≢◌, ℕ, ◌+◌, ◌*◌, ◌<◌, ◌≤◌, Bool, false, arith, cond, List, [], ◌∷◌, ◌++◌, map as list_map, true, Option, Some, None, Result, Ok, Err, refl, sym, ◌∙◌, ap, subst}
 use Rattle.std.proofs.lemmas.Bool.{ne_eqb}
 use Rattle.std.specs.declared.cmp.Ordering.{Ordering}
 use Rattle.std.specs.declared.cmp.Ordering.TheVariants.{Less, Equal, Greater}
@@ -12,7 +12,7 @@ use Rattle.vx_base.specs.Paths.{FileName}
 use Rattle.vx_base.proofs.Maps.{at_key, at_other}
 use Rattle.vx_model.specs.Outcome.{Maybe, need, ◌>>=◌}
 use Rattle.vx_model.specs.Tree.{Node, Nodes, Entries, File, Directory, IsFile, IsDirectory}
-use Rattle.vx_model.specs.Layout.{Layout, DirectoryBlock, blocks_at, add_entry, without_name as block_without}
+use Rattle.vx_model.specs.Layout.{Layout, blocks_at, add_entry, without_name as block_without}
 use Rattle.vx_model.specs.State.{State}
 use Rattle.vx_model.specs.Legal.{IfThere}
 use Rattle.vx_model.specs.Walks.{root, as_file, as_directory, file_at, directory_at, step_to, walk}
@@ -35,9 +35,6 @@ use Rattle.vx_txn.specs.declared.meta.Meta.{Meta}
 use Rattle.vx_txn.specs.Calls.{HasGone, IsSettled}
 use Rattle.vx_txn.specs.Directories.{DirectoryValue, IsNewIn}
 use Rattle.vx_txn.specs.Metas.{Stands, IsSound, HasDirectory, directory_of}
-use Rattle.vx_base.specs.declared.inode.DirEntry.{DirEntry}
-use Rattle.std.specs.List.{count_by, sum_by}
-use Rattle.vx_model.specs.Reads.{entries_from}
 use Rattle.vx_txn.specs.Edits.{IsEdited, IsRefused, refusal_reply}
 use Rattle.vx_txn.specs.declared.edits.EditRefusal.{EditRefusal}
 use Rattle.vx_txn.specs.declared.edits.EditRefusal.TheVariants as edit
@@ -47,7 +44,7 @@ use Rattle.vx_txn.proofs.CallLaws.{counted_names}
 use Rattle.vx_txn.proofs.StateLaws as laws
 use Rattle.vx_model.specs.Paths.{PathEnd, path_end, path_end_from}
 use Rattle.vx_txn.specs.Removals.{entry_of, links_of as name_count, IsRootUsed}
-use Rattle.vx_dir.specs.Directories.{inode_of, entry_count, is_named, IsKept as IsSoundDirectory}
+use Rattle.vx_dir.specs.Directories.{inode_of, entry_count, IsKept as IsSoundDirectory}
 
 -- ---- nodes
 

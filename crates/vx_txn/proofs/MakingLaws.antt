@@ -1,5 +1,5 @@
 -- A new inode and its name, one after the other.
-use Rattle.std.proofs.Common.{◌≡◌, ◌≢◌, ℕ, ◌-◌, ◌*◌, ◌<◌, ◌≤◌, Bool, true, false, Option, Some, None, Ok, Err, refl, sym, ◌∙◌, ap, subst, inl, inr}
+use Rattle.std.proofs.Common.{◌≡◌, ◌≢◌, ℕ, ◌-◌, ◌*◌, ◌<◌, ◌≤◌, Bool, Option, Some, None, Ok, Err, refl, sym, ◌∙◌, ap, subst, inl, inr}
 use Rattle.std.specs.Prelude.{Result, is_none, IfOk, OnErr}
 use Rattle.std.specs.FinMap as map
 use Rattle.std.specs.declared.alloc.AllocError.{AllocError}
@@ -10,7 +10,7 @@ use Rattle.vx_base.specs.declared.refusal.Refusal.{Refusal}
 use Rattle.vx_base.specs.declared.refusal.Refusal.TheVariants as no
 use Rattle.vx_base.specs.declared.reply.Reply.{Reply}
 use Rattle.vx_base.specs.declared.reply.Reply.TheVariants as say
-use Rattle.vx_inode.specs.Tables.{Table, without_inode, with_inode}
+use Rattle.vx_inode.specs.Tables.{Table, without_inode}
 use Rattle.vx_inode.specs.declared.table.MakeRefusal.{MakeRefusal}
 use Rattle.vx_inode.specs.declared.table.MakeRefusal.TheVariants as make
 use Rattle.vx_model.specs.Edits.{with_nodes, with_name, add_name, add_name_in, set_node}
@@ -21,7 +21,7 @@ use Rattle.vx_model.specs.State.{State, Done}
 use Rattle.vx_model.specs.Touching.{Touched, untouched}
 use Rattle.vx_model.specs.Tree.{Node, Directory, IsDirectory, lowest_unused}
 use Rattle.vx_model.specs.Walks as walks
-use Rattle.vx_txn.specs.Calls.{HasGone, IsDone, IsSettled}
+use Rattle.vx_txn.specs.Calls.{IsSettled}
 use Rattle.vx_txn.specs.Edits.{IsEdited, IsRefused, IsMade, IsFullOf, refusal_reply}
 use Rattle.vx_txn.specs.Makings.{full_reply}
 use Rattle.vx_txn.specs.Metas.{directory_of, IsSound, IsUnchanged, Stands}

@@ -149,7 +149,7 @@ module _ (s : State) (at : ℕ) (name : FileName) (ino : ℕ) where
 
 -- ---- a name that goes leaves room for an entry of the same name
 
-length_bytes : (es : List DirEntry) → length (entries_bytes es) ≡ used_by es
+pub length_bytes : (es : List DirEntry) → length (entries_bytes es) ≡ used_by es
 length_bytes [] = refl
 length_bytes (e ∷ es) =
     let one = length-append (entry_bytes e) (entries_bytes es) in

@@ -1,6 +1,6 @@
 -- Edits of a directory's names.
 use Rattle.std.proofs.Common.{◌≡◌, ◌≢◌, ℕ, zero, suc, ◌+◌, ◌-◌, ◌*◌, ◌<◌, ◌≤◌, Bool, true, false, cond, List, [], ◌∷◌, ◌++◌, map, length, set, get_or, Option, Some, None, Ok, Err, refl, sym, ◌∙◌, ap, subst, arith, inl, inr, length-set}
-use Rattle.std.specs.Prelude.{◌==◌, ◌||◌, Result, nat_le, nat_lt, drop}
+use Rattle.std.specs.Prelude.{◌==◌, ◌||◌, nat_le, nat_lt, drop}
 use Rattle.vx_base.specs.declared.kind.Kind.TheVariants.{Data}
 use Rattle.vx_model.specs.Images.{among}
 use Rattle.std.specs.List.{position_or_len}
@@ -15,27 +15,27 @@ use Rattle.vx_base.specs.declared.kind.FileKind.TheVariants as kind
 use Rattle.vx_base.specs.declared.refusal.Refusal.{Refusal}
 use Rattle.vx_base.specs.declared.refusal.Refusal.TheVariants as no
 use Rattle.vx_dir.specs.Sizes.{Entries}
-use Rattle.vx_dir.specs.Directories.{Directory as Names, inode_of, is_there, has_place, place_for, add_answer, blocks_with, with_entry as with_entry_in, has_room as fits}
+use Rattle.vx_dir.specs.Directories.{Directory as Names, inode_of, is_there, has_place, place_for, blocks_with, has_room as fits}
 use Rattle.vx_dir.specs.declared.refusal.DirRefusal.{DirRefusal}
 use Rattle.vx_dir.specs.declared.refusal.DirRefusal.TheVariants as dir
 use Rattle.vx_extents.specs.Extents.{Mapped}
 use Rattle.vx_inode.specs.Tables.{Table, inode_at}
 use Rattle.vx_model.specs.Contents.{settled_of}
 use Rattle.vx_model.specs.EditLaws.{EditLaws}
-use Rattle.vx_model.specs.Edits.{with_nodes, with_name, without_name, add_name, add_name_in, remove_name, remove_name_in}
+use Rattle.vx_model.specs.Edits.{with_nodes, with_name, add_name, add_name_in, remove_name, remove_name_in}
 use Rattle.vx_model.specs.LaidOut.{IsLaidOut}
 use Rattle.vx_model.specs.Layout as layout
 use Rattle.vx_model.specs.Layout.{Layout, DirectoryBlock, blocks_at, block_numbers, space_at, with_blocks, owned, add_entry, filled_or_new, with_entry, with_new_block, has_room, remove_entry, pages_from, room_place}
 use Rattle.vx_model.specs.Outcome.{Maybe, ◌>>=◌, unless}
 use Rattle.vx_model.specs.State.{State}
-use Rattle.vx_model.specs.Touching.{Touched, IsTouched, IsOnlyIn, joined, entries_touched, name_touched, new_blocks, units_of}
-use Rattle.vx_model.specs.Tree.{Node, Directory, IsDirectory, no_attrs}
+use Rattle.vx_model.specs.Touching.{Touched, IsTouched, IsOnlyIn, entries_touched, new_blocks, units_of}
+use Rattle.vx_model.specs.Tree.{Directory, IsDirectory, no_attrs}
 use Rattle.vx_model.specs.Walks as walks
 use Rattle.vx_space.specs.Space.{page_blocks}
 use Rattle.vx_txn.specs.Calls.{HasGone}
 use Rattle.vx_txn.specs.Directories.{DirectoryValue, IsDirectory as HasShape, placed, blocks_in, maps_in, block_count, others, without, IsNewIn}
 use Rattle.vx_txn.specs.Directories as mine
-use Rattle.vx_txn.specs.Edits.{place_answer, refused_as, IsEdited, HasAnswer}
+use Rattle.vx_txn.specs.Edits.{place_answer, refused_as, IsEdited}
 use Rattle.vx_txn.specs.Metas.{HasDirectory, directory_of, IsStateOf, Stands}
 use Rattle.vx_txn.specs.declared.meta.Meta.{Meta}
 use Rattle.vx_txn.proofs.Changes.{edited, free_kept, touched_entries, next_gone, stands_of}

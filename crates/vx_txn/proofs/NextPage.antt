@@ -1,8 +1,8 @@
 -- What a directory's next block is: one page behind the others, and the map blocks that are needed then.
-use Rattle.std.proofs.Common.{◌≡◌, ℕ, zero, suc, ◌+◌, ◌-◌, ◌<◌, ◌≤◌, max, Bool, true, false, cond, not, ◌&&◌, List, [], ◌∷◌, ◌++◌, length, Option, Some, None, Ok, Err, refl, sym, ◌∙◌, ap, subst, arith, inl, inr, length-append}
-use Rattle.std.specs.Prelude.{◌==◌, is_none, nat_lt}
+use Rattle.std.proofs.Common.{◌≡◌, ℕ, zero, suc, ◌+◌, ◌-◌, ◌≤◌, Bool, true, false, cond, not, ◌&&◌, List, [], ◌∷◌, ◌++◌, length, Option, Some, None, Ok, Err, refl, sym, ◌∙◌, ap, subst, arith, length-append}
+use Rattle.std.specs.Prelude.{◌==◌, nat_lt}
 use Rattle.std.specs.Option.{option_map, option_and_then}
-use Rattle.std.proofs.lemmas.Bool.{cases_Bool, ne_eqb, eq-eqb, lt-ltb}
+use Rattle.std.proofs.lemmas.Bool.{ne_eqb, eq-eqb, lt-ltb}
 use Rattle.std.proofs.lemmas.Option.{none-some, same_Some}
 use Rattle.vx_base.specs.declared.kind.Kind.{Kind}
 use Rattle.vx_base.specs.declared.kind.Kind.TheVariants.{Data}
@@ -10,15 +10,14 @@ use Rattle.vx_base.specs.declared.refusal.Refusal.{Refusal}
 use Rattle.vx_base.specs.declared.refusal.Refusal.TheVariants as no
 use Rattle.vx_dir.specs.Sizes.{Entries}
 use Rattle.vx_extents.specs.Extents.{Mapped, mapped_at, with_page}
-use Rattle.vx_extents.specs.Uses.{used_pages}
 use Rattle.vx_filemaps.proofs.Pages.{new_used}
 use Rattle.vx_layout.specs.Places.{Volume}
 use Rattle.vx_model.specs.Layout.{DirectoryBlock, pages_from}
 use Rattle.vx_model.specs.Legal.{is_any_time}
 use Rattle.vx_space.specs.Outcome.{Maybe, unless, ◌>>=◌, need}
 use Rattle.vx_space.specs.Placement.{longest_run, page_place}
-use Rattle.vx_space.specs.Placing.{Filling, Request, block_before, each_page, first_for, is_empty_group, place_chain, place_fill, place_group, group_length, place_maps, place_missing, place_page, place_one, with_block, with_data, with_map, write_page}
-use Rattle.vx_space.specs.Space.{Space, extents_in, maps_needed, most_extents}
+use Rattle.vx_space.specs.Placing.{Filling, Request, block_before, first_for, is_empty_group, place_chain, place_fill, place_group, group_length, place_maps, place_missing, with_block, with_data, with_map}
+use Rattle.vx_space.specs.Space.{Space, maps_needed}
 use Rattle.vx_txn.specs.Directories.{placed}
 
 -- ---- pages behind the others

@@ -17,7 +17,7 @@ use Rattle.vx_model.specs.Outcome.{Maybe, ◌>>=◌, need}
 use Rattle.vx_model.specs.Removing.{fine}
 use Rattle.vx_model.specs.State.{State, Done}
 use Rattle.vx_model.specs.Touching.{Touched, untouched}
-use Rattle.vx_model.specs.Tree.{Node, IsFile, IsDirectory}
+use Rattle.vx_model.specs.Tree.{Node, IsDirectory}
 use Rattle.vx_txn.specs.Calls.{HasGone, IsSettled}
 use Rattle.vx_txn.specs.Directories.{DirectoryValue}
 use Rattle.vx_txn.specs.Metas.{directory_of, Stands}

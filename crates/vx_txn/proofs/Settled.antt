@@ -1,14 +1,11 @@
 -- What the device says of a directory's blocks, by what is kept in memory.
-use Rattle.std.proofs.Common.{◌≡◌, ℕ, zero, suc, ◌+◌, ◌*◌, ◌<◌, ◌≤◌, Bool, true, false, List, [], ◌∷◌, ◌++◌, length, map, take, get_or, Option, Some, None, refl, sym, ◌∙◌, ap, subst, arith, inl, inr, append-nil}
-use Rattle.std.specs.Prelude.{slice_get}
+use Rattle.std.proofs.Common.{◌≡◌, ℕ, suc, ◌+◌, ◌≤◌, List, [], ◌∷◌, ◌++◌, length, take, Some, refl, sym, ◌∙◌, ap, arith, inl, inr, append-nil}
 use Rattle.std.proofs.lemmas.Bool.{cases_Bool}
 use Rattle.std.proofs.lemmas.Bool.Decides.{nat_tests}
 use Rattle.std.proofs.lemmas.List.{take_all}
-use Rattle.vx_base.specs.declared.inode.Extent.{Extent}
-use Rattle.vx_base.specs.declared.kind.Kind.TheVariants.{Data}
 use Rattle.vx_dir.specs.Sizes.{Entries}
-use Rattle.vx_extents.specs.Extents.{Mapped, extent_count, extents_after, follows, chain_len}
-use Rattle.vx_model.specs.Layout.{Layout, DirectoryBlock, blocks_at, block_numbers, maps_at, pages_from, settled_at, settled_maps}
+use Rattle.vx_extents.specs.Extents.{Mapped, extent_count, extents_after, follows}
+use Rattle.vx_model.specs.Layout.{DirectoryBlock, blocks_at, block_numbers, pages_from, settled_at, settled_maps}
 use Rattle.vx_model.specs.State.{State}
 use Rattle.vx_space.specs.Space.{Space, maps_for, page_blocks}
 use Rattle.vx_txn.specs.Directories.{DirectoryValue, placed, blocks_in}

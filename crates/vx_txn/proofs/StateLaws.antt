@@ -1,30 +1,27 @@
 -- The nodes of the state that the metadata stand for.
-use Rattle.std.proofs.Common.{◌≡◌, ◌≢◌, ℕ, zero, suc, ◌+◌, ◌*◌, ◌<◌, ◌≤◌, Bool, true, false, List, [], ◌∷◌, ◌++◌, length, Option, Some, None, Ok, Err, refl, sym, ◌∙◌, ap, subst, arith, inl, inr, get_or}
+use Rattle.std.proofs.Common.{◌≡◌, ℕ, ◌*◌, ◌<◌, ◌≤◌, List, [], ◌∷◌, ◌++◌, length, Option, Some, None, Ok, Err, refl, sym, ◌∙◌, ap, subst, arith}
 use Rattle.std.specs.Option.{option_map}
 use Rattle.std.specs.List.{flat_map}
 use Rattle.std.specs.FinMap as map
 use Rattle.std.proofs.lemmas.Option.{same_Some, none-some}
-use Rattle.std.proofs.lemmas.Bool.{cases_Bool}
-use Rattle.std.proofs.lemmas.Bool.Decides.{nat_tests}
 use Rattle.vx_base.specs.Paths.{FileName}
-use Rattle.vx_base.specs.declared.inode.DirEntry.{DirEntry}
 use Rattle.vx_base.specs.declared.inode.Inode.{Inode}
 use Rattle.vx_base.specs.declared.inode.InodeValue.{InodeValue}
 use Rattle.vx_base.specs.declared.refusal.Refusal.TheVariants as no
 use Rattle.vx_dir.specs.Sizes.{Entries}
-use Rattle.vx_dir.specs.Directories.{Directory as Names, all_entries, holds, block_of, place_of, inode_in, inode_of}
+use Rattle.vx_dir.specs.Directories.{all_entries, inode_of}
 use Rattle.vx_extents.specs.Extents.{Mapped}
 use Rattle.vx_inode.specs.Tables.{inode_at}
 use Rattle.vx_model.specs.Contents.{Held, inode_for, settled_of}
-use Rattle.vx_model.specs.LaidOut.{IsHeld, HasNothing, IsDirectoryOf, IsPlainFile, IsLaidOut, entries_of}
+use Rattle.vx_model.specs.LaidOut.{IsHeld, HasNothing, IsDirectoryOf, IsPlainFile, entries_of}
 use Rattle.vx_model.specs.Layout.{Layout, DirectoryBlock, blocks_at, maps_at, space_at}
 use Rattle.vx_model.specs.Outcome.{need}
 use Rattle.vx_model.specs.Reads.{entries_from}
 use Rattle.vx_model.specs.State.{State}
 use Rattle.vx_model.specs.Tree.{Node, File, Directory, IsFile, IsDirectory}
 use Rattle.vx_model.specs.Walks as walks
-use Rattle.vx_txn.specs.Directories.{DirectoryValue, IsDirectory as HasShape, placed, blocks_in, maps_in, directory_at}
-use Rattle.vx_txn.specs.Metas.{HasDirectory, directory_of, IsStateOf, Stands}
+use Rattle.vx_txn.specs.Directories.{DirectoryValue, IsDirectory as HasShape, placed, blocks_in, maps_in}
+use Rattle.vx_txn.specs.Metas.{HasDirectory, directory_of, Stands}
 use Rattle.vx_txn.specs.declared.meta.Meta.{Meta}
 use Rattle.vx_txn.proofs.EntryLaws.{get_entries, meaning_in}
 

@@ -10,3 +10,4 @@ pub mod Removals
 pub mod Links
 pub mod Renames
 pub mod Staged
+pub mod Loads

@@ -1,15 +1,16 @@
 //! A directory's names and where they stand.
-ghost use Rattle.std.specs.Prelude.{◌≡◌, ◌≤◌, length, IfErr, IfOk, OnOk, OnErr, Some};
+ghost use Rattle.std.specs.Prelude.{◌≡◌, ◌≤◌, ◌++◌, length, IfErr, IfOk, OnOk, OnErr, Some, []};
 ghost use Rattle.vx_dir.specs.Directories.{with_entry};
 ghost use Rattle.vx_filemaps.specs.FileMaps.{IsReady};
 ghost use Rattle.vx_model.specs.Touching.{IsOnlyIn};
 ghost use Rattle.vx_txn.specs.Directories.{blocks_in, without, with_name};
 ghost use Rattle.vx_txn.specs.Edits.{empty_directory, HasGrown, IsFull};
+ghost use Rattle.vx_txn.specs.Loads.{AreBlocksOf, AreNext, loaded_directory, with_extents};
 
 use std::alloc::{AllocError, Global};
 use std::marker::Model;
 use vx_alloc::FreeMap;
-use vx_base::{Ino, Name, Page};
+use vx_base::{Block, DirValue, Extent, Ino, Name, Page};
 use vx_dir::DirBlocks;
 use vx_filemaps::{FileMaps, PlaceRefusal, Scratch};
 
@@ -40,6 +41,24 @@ impl Directory {
             names: DirBlocks::new(alloc),
             maps: FileMaps::new(alloc),
         }
+    }
+
+    /// The directory whose blocks, in page order, stand in these extents and have these entries, with these map blocks.
+    pub fn load(
+        alloc: Global,
+        extents: &[Extent],
+        maps: &[Block],
+        blocks: &[DirValue],
+    ) -> Result<Self, AllocError>
+        requires next { AreNext extents.now [] }
+        requires blocks { AreBlocksOf blocks.now }
+        ensures { IfOk result (λ d. d ≡ loaded_directory extents.now maps.now blocks.now) }
+    {
+        let names = load_names(alloc, blocks)?;
+        let mut pages = FileMaps::new(alloc);
+        load_extents(&mut pages, extents)?;
+        load_maps(&mut pages, maps)?;
+        Ok(Directory { names, maps: pages })
     }
 
     /// The entries, by block.
@@ -129,4 +148,37 @@ fn copy_with(names: &DirBlocks, name: &Name, ino: Ino) -> Result<DirBlocks, Allo
         Ok(_) => Ok(copy),
         Err(_) => Err(AllocError),
     }
+}
+
+/// Blocks with these entries.
+fn load_names(alloc: Global, blocks: &[DirValue]) -> Result<DirBlocks, AllocError>
+    requires { AreBlocksOf blocks.now }
+    ensures { IfOk result (λ names. names ≡ record { block_size = 1024; limit = 64; blocks = blocks.now }) }
+{
+    let mut names = DirBlocks::new(alloc);
+    for block in blocks {
+        names.push(block)?;
+    }
+    Ok(names)
+}
+
+/// Takes these extents behind the pages that are there.
+fn load_extents(pages: &mut FileMaps, extents: &[Extent]) -> Result<(), AllocError>
+    requires { AreNext extents.now pages.old.space.present }
+    ensures { OnOk result (pages.new ≡ with_extents extents.now pages.old) }
+{
+    for extent in extents {
+        pages.load_extent(extent)?;
+    }
+    Ok(())
+}
+
+/// Takes these map blocks behind those that are there.
+fn load_maps(pages: &mut FileMaps, maps: &[Block]) -> Result<(), AllocError>
+    ensures { OnOk result (pages.new ≡ record pages.old { maps = pages.old.maps ++ maps.now }) }
+{
+    for block in maps {
+        pages.load_map(*block)?;
+    }
+    Ok(())
 }

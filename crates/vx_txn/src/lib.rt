@@ -5,6 +5,7 @@ mod chmod;
 mod directory;
 mod edits;
 mod link;
+mod load;
 mod make;
 mod meta;
 mod read;
@@ -16,6 +17,7 @@ mod touched;
 mod walk;
 
 pub use directory::Directory;
+pub use load::loading_laws;
 pub use meta::Meta;
 pub use sectors::stage;
 pub use touched::Touched;

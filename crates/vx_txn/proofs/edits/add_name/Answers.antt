@@ -1,5 +1,4 @@
 use Rattle.std.proofs.Common.{sym, ◌∙◌, ap, subst}
-use Rattle.vx_base.specs.declared.refusal.Refusal.{Refusal}
 use Rattle.vx_model.specs.Legal.{is_any_time}
 use Rattle.vx_model.specs.Touching.{untouched}
 use Rattle.vx_txn.specs.Directories.{directory_at, IsNewIn}

@@ -1,4 +1,4 @@
-use Rattle.std.proofs.Common.{◌≡◌, ℕ, ◌+◌, ◌*◌, ◌≤◌, List, [], ◌∷◌, ◌++◌, length, map, Option, Some, None, Ok, refl, sym, ◌∙◌, ap, subst, arith, length-append}
+use Rattle.std.proofs.Common.{◌≡◌, ℕ, ◌+◌, ◌*◌, ◌≤◌, [], ◌∷◌, ◌++◌, length, Option, Some, Ok, refl, sym, ◌∙◌, ap, subst, arith, length-append}
 use Rattle.std.proofs.lemmas.List.{with_items_is, length-map}
 use Rattle.std.specs.Option.{option_copied}
 use Rattle.vx_base.specs.declared.inode.DirEntry.{DirEntry}
@@ -7,9 +7,8 @@ use Rattle.vx_inode.specs.Tables.{with_change}
 use Rattle.vx_model.specs.Touching.{Touched, untouched}
 use Rattle.vx_txn.specs.Directories.{DirectoryValue, IsNewIn, block_count, directory_at, maps_in}
 use Rattle.vx_txn.specs.Edits.{AreBlocks, HasAnswer, IsRefused, blocks_past, units_from}
-use Rattle.vx_txn.specs.Metas.{directory_of}
 use Rattle.vx_txn.proofs.CallLaws.{stays}
-use Rattle.vx_txn.proofs.Growing.{IsGrownAt, RequestLaws, refused_as, grown_at, grown_few, grown_gone, index_is, is_ready, new_shape}
+use Rattle.vx_txn.proofs.Growing.{RequestLaws, refused_as, grown_at, grown_few, grown_gone, index_is, is_ready, new_shape}
 use Rattle.vx_txn.proofs.NameEdits.{new_directory}
 use Rattle.vx_txn.proofs.SlotLaws.{Slots}
 use Rattle.vx_txn.proofs.edits.add_with_block.Goals as goal

@@ -1,4 +1,4 @@
-use Rattle.std.proofs.Common.{refl, sym, ◌∙◌, ap}
+use Rattle.std.proofs.Common.{refl}
 use Rattle.vx_inode.specs.Tables.{new_inode}
 use Rattle.vx_txn.proofs.NodeEdits.{refusal_is, made_lowest, made_gone, taken_back_table, used_after}
 use Rattle.vx_txn.proofs.edits.make_node.Goals as goal

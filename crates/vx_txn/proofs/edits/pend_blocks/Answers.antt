@@ -1,6 +1,5 @@
-use Rattle.std.proofs.Common.{◌≡◌, Option, ◌++◌, sym, ap, subst, ◌∙◌, List, ℕ}
+use Rattle.std.proofs.Common.{◌≡◌, sym, ap, subst, ◌∙◌, List, ℕ}
 use Rattle.std.specs.Option.{option_copied}
-use Rattle.vx_alloc.specs.FreeMaps.{FreeMapView}
 use Rattle.vx_filemaps.specs.Files.{FileView}
 use Rattle.vx_filemaps.specs.Settles.{CanWait, pended}
 use Rattle.vx_space.specs.Space.{page_blocks}

@@ -1,6 +1,4 @@
-use Rattle.std.proofs.Common.{◌≡◌, ℕ, ◌<◌, ◌+◌, length, drop, get_or, Option, ◌∙◌, sym, ap, subst, arith}
-use Rattle.vx_alloc.specs.FreeMaps.{FreeMapView}
-use Rattle.vx_base.specs.declared.kind.Kind.{Kind}
+use Rattle.std.proofs.Common.{◌≡◌, ℕ, ◌<◌, ◌+◌, length, drop, ◌∙◌, sym, ap, subst, arith}
 use Rattle.vx_dir.specs.Directories.{Directory}
 use Rattle.vx_extents.specs.Extents.{mapped_at}
 use Rattle.vx_filemaps.specs.Files.{FileView}

@@ -1,4 +1,3 @@
-use Rattle.std.proofs.Common.{◌≡◌, get_or}
 use Rattle.std.proofs.lemmas.List.{get_or_read}
 use Rattle.vx_txn.proofs.Paged.{has_room, touched_next, all_touched, none_touched}
 use Rattle.vx_txn.proofs.edits.touch_blocks.Goals as goal

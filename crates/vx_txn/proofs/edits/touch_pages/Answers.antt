@@ -1,4 +1,4 @@
-use Rattle.std.proofs.Common.{◌≡◌, ℕ, ◌<◌, ◌≤◌, ◌+◌, length, ◌∙◌, ap, subst, arith}
+use Rattle.std.proofs.Common.{◌≡◌, ℕ, ◌<◌, length, ◌∙◌, ap, subst, arith}
 use Rattle.vx_dir.specs.Directories.{Directory}
 use Rattle.vx_extents.specs.Extents.{mapped_at}
 use Rattle.vx_filemaps.specs.Files.{FileView}

@@ -1,5 +1,4 @@
-use Rattle.std.proofs.Common.{true, sym, ◌∙◌, ap}
-use Rattle.std.specs.Prelude.{is_some}
+use Rattle.std.proofs.Common.{sym, ◌∙◌, ap}
 use Rattle.vx_base.specs.declared.refusal.Refusal.TheVariants as no
 use Rattle.vx_dir.specs.Directories.{Directory, inode_of}
 use Rattle.vx_txn.specs.Links.{link_to}

@@ -1,5 +1,4 @@
 use Rattle.std.proofs.Common.{◌<◌, ◌+◌, ℕ, sym, ◌∙◌, ap, subst}
-use Rattle.std.specs.FinMap as map
 use Rattle.vx_base.specs.declared.refusal.Refusal.TheVariants as no
 use Rattle.vx_model.specs.Outcome.{Maybe, ◌>>=◌}
 use Rattle.vx_model.specs.Tree.{IsFile}

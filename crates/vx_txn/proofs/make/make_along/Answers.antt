@@ -1,6 +1,5 @@
-use Rattle.std.proofs.Common.{sym, ap, subst}
+use Rattle.std.proofs.Common.{sym, subst}
 use Rattle.vx_base.specs.declared.reply.Reply.TheVariants as say
-use Rattle.vx_base.specs.declared.reply.Reply.{Reply}
 use Rattle.std.specs.Prelude.{IfOk}
 use Rattle.vx_model.specs.Making.{make_along}
 use Rattle.vx_model.specs.Outcome.{Maybe}

@@ -1,9 +1,8 @@
-use Rattle.std.proofs.Common.{◌≡◌, ◌≢◌, ℕ, ◌*◌, ◌<◌, None, Some, refl, sym, ◌∙◌, ap, subst}
+use Rattle.std.proofs.Common.{◌≡◌, ◌≢◌, ℕ, ◌*◌, ◌<◌, Some, refl, sym, ◌∙◌, ap, subst}
 use Rattle.std.proofs.lemmas.Option.{none-some}
 use Rattle.vx_inode.specs.Tables.{Table, is_used}
 use Rattle.vx_model.specs.Edits.{set_node}
-use Rattle.vx_model.specs.State.{State}
-use Rattle.vx_model.specs.Touching.{Touched, untouched}
+use Rattle.vx_model.specs.Touching.{Touched}
 use Rattle.vx_txn.specs.Calls.{HasGone}
 use Rattle.vx_txn.specs.Directories.{IsNewIn}
 use Rattle.vx_txn.specs.Edits.{new_node}

@@ -1,4 +1,4 @@
-use Rattle.std.proofs.Common.{sym, ◌∙◌, subst}
+use Rattle.std.proofs.Common.{sym, subst}
 use Rattle.vx_dir.specs.Directories.{Directory, IsKept}
 use Rattle.vx_txn.proofs.ReadLaws.{directory_settled}
 use Rattle.vx_txn.proofs.read.stat_at.Goals as goal

@@ -1,4 +1,4 @@
-use Rattle.std.proofs.Common.{◌≡◌, ◌+◌, ◌≤◌, drop}
+use Rattle.std.proofs.Common.{◌≡◌, drop}
 use Rattle.vx_model.specs.Moving.{begins_with}
 use Rattle.vx_txn.proofs.rename.begins_with.Given as goal
 

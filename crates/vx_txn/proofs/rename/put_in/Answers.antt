@@ -1,4 +1,4 @@
-use Rattle.std.proofs.Common.{◌<◌, ◌*◌, Ok, sym, ◌∙◌, ap, subst}
+use Rattle.std.proofs.Common.{◌<◌, ◌*◌, Ok, sym, ap, subst}
 use Rattle.vx_inode.specs.Tables.{Table}
 use Rattle.vx_model.specs.Outcome.{Maybe, ◌>>=◌}
 use Rattle.vx_model.specs.State.{State}

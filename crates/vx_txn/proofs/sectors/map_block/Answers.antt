@@ -1,5 +1,4 @@
-use Rattle.std.proofs.Common.{◌≡◌, ◌+◌, ◌<◌, length, drop, Some, ◌∙◌, arith, length-set, length-drop}
-use Rattle.std.specs.Prelude.{slice_get}
+use Rattle.std.proofs.Common.{drop, ◌∙◌, arith, length-set, length-drop}
 use Rattle.vx_extents.specs.Extents.{stretches}
 use Rattle.vx_txn.proofs.BlockSectors.{get_dropped, take_next}
 use Rattle.vx_txn.proofs.sectors.map_block.Goals as goal

@@ -1,4 +1,4 @@
-use Rattle.std.proofs.Common.{◌≡◌, ◌+◌, take, drop, length}
+use Rattle.std.proofs.Common.{◌≡◌, take, drop, length}
 use Rattle.vx_extents.specs.Extents.{stretches}
 use Rattle.vx_txn.proofs.sectors.map_block.Given as goal
 

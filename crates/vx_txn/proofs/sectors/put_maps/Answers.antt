@@ -1,4 +1,4 @@
-use Rattle.std.proofs.Common.{◌*◌, ◌+◌, subst, ◌∙◌, arith}
+use Rattle.std.proofs.Common.{◌*◌, ◌+◌, subst, arith}
 use Rattle.std.proofs.lemmas.List.{get_or_read}
 use Rattle.vx_txn.specs.Staged.{HasMaps}
 use Rattle.vx_txn.proofs.Gains.{adds_more, each_all, each_more}

@@ -1,5 +1,4 @@
 use Rattle.std.proofs.Common.{◌∙◌, sym, ap, subst, Option, Some}
-use Rattle.vx_model.specs.State.{State}
 use Rattle.vx_txn.specs.Directories.{DirectoryValue}
 use Rattle.vx_txn.specs.Metas.{Stands}
 use Rattle.vx_txn.specs.Values.{AreFew, value_by}

@@ -1,0 +1,40 @@
+use Rattle.std.proofs.Common.{◌≡◌, ℕ, ◌<◌, ◌+◌, length, drop, ◌∙◌, sym, ap, subst, arith}
+use Rattle.vx_dir.specs.Directories.{Directory}
+use Rattle.vx_extents.specs.Extents.{mapped_at}
+use Rattle.vx_filemaps.specs.Files.{FileView}
+use Rattle.vx_space.specs.Space.{page_blocks}
+use Rattle.vx_txn.specs.Loads.{CanTake, without_blocks}
+use Rattle.vx_txn.proofs.Paged.{found_block, length_blocks, never_none}
+use Rattle.vx_txn.proofs.LoadingDirectories.{take_first, take_next, take_rest}
+use Rattle.vx_txn.proofs.load.take_pages.Goals as goal
+
+within : (d : Directory) (e : Directory) (i end : ℕ) → i < end → end ≡ length d.blocks → d ≡ e → i < length e.blocks
+within d e i end lt is same = subst (λ (x : Directory). i < length x.blocks) same (subst (λ (n : ℕ). i < n) is lt)
+
+pub take_block-requires : goal.take_block-requires
+take_block-requires c =
+    let d = c.args.directory.now in
+    let blocks = page_blocks d.maps.space.present in
+    let lt : c.loop-i.i < length d.names.blocks = within c.names.result.now d.names c.loop-i.i c.blocks-i-end.result c.loop-i-test.true c.blocks-i-end.ensures c.names.ensures in
+    let count = length_blocks d c.requires.paged in
+    let b = found_block d c.requires.paged c.loop-i.i c.new.result c.in-Some.found.0 c.in-Some.found.1 c.find.result lt c.new.ensures (c.find.ensures ∙ ap (λ (m : FileView). mapped_at m.space.present c.new.result) c.maps.ensures) c.in-Some.is in
+    take_first blocks c.loop-i.i c.in-Some.found.0 c.loop-i.free (omega arith) b c.loop-i.invariant.free
+
+pub unreachable-requires : goal.unreachable-requires
+unreachable-requires c =
+    let d = c.args.directory.now in
+    let lt : c.loop-i.i < length d.names.blocks = within c.names.result.now d.names c.loop-i.i c.blocks-i-end.result c.loop-i-test.true c.blocks-i-end.ensures c.names.ensures in
+    never_none d c.requires.paged c.loop-i.i c.new.result c.find.result lt c.new.ensures (c.find.ensures ∙ ap (λ (m : FileView). mapped_at m.space.present c.new.result) c.maps.ensures) c.in-None.is
+
+pub loop-i-preserved : goal.loop-i-preserved
+loop-i-preserved c =
+    let d = c.args.directory.now in
+    let blocks = page_blocks d.maps.space.present in
+    let lt : c.loop-i.i < length d.names.blocks = within c.names.result.now d.names c.loop-i.i c.blocks-i-end.result c.loop-i-test.true c.blocks-i-end.ensures c.names.ensures in
+    let count = length_blocks d c.requires.paged in
+    let inside : c.loop-i.i < length blocks = omega arith in
+    let b = found_block d c.requires.paged c.loop-i.i c.new.result c.in-Some.found.0 c.in-Some.found.1 c.find.result lt c.new.ensures (c.find.ensures ∙ ap (λ (m : FileView). mapped_at m.space.present c.new.result) c.maps.ensures) c.in-Some.is in
+    record {
+      left = c.loop-i.invariant.left ∙ take_next blocks c.loop-i.i c.in-Some.found.0 c.loop-i.free inside b ∙ ap (without_blocks (drop (c.loop-i.i + 1) blocks)) (sym c.take_block.ensures);
+      free = subst (CanTake (drop (c.loop-i.i + 1) blocks)) (sym c.take_block.ensures) (take_rest blocks c.loop-i.i c.in-Some.found.0 c.loop-i.free inside b c.loop-i.invariant.free);
+    }
