@@ -1,31 +1,34 @@
 -- What was read of an image, and whether it passes its check.
-use Rattle.std.proofs.Common.{◌≡◌, ℕ, ◌+◌, ◌*◌, ◌≤◌, Bool, true, false, List, [], refl, sym, ap, subst, ◌∙◌, inl, inr, arith}
-use Rattle.std.specs.Prelude.{◌==◌, ◌&&◌, ◌||◌, not, Option, Some, None, Result, Ok, Err, unwrap_or}
+use Rattle.std.proofs.Common.{◌≡◌, ℕ, ◌+◌, ◌*◌, ◌≤◌, Bool, true, false, List, [], ◌∷◌, length, refl, sym, ap, subst, ◌∙◌, inl, inr, arith}
+use Rattle.std.specs.Prelude.{◌==◌, ◌&&◌, ◌||◌, not, Option, Some, None, Result, Ok, unwrap_or}
 use Rattle.std.specs.List.Sorted.{IsStrictlyIncreasing}
 use Rattle.std.proofs.lemmas.Bool.{le-ltb, eq-eqb, eqb-true}
 use Rattle.vx_layout.specs.declared.superblock.Super.{Super}
 use Rattle.vx_layout.specs.declared.superblock.BadSuper.{BadSuper}
-use Rattle.vx_layout.specs.LogForms.{AfterImage, overlay, overlay_all}
+use Rattle.vx_layout.specs.LogForms.{AfterImage, log_sectors, overlay, overlay_all}
 use Rattle.vx_layout.specs.Places.{sectors_of}
 use Rattle.vx_layout.specs.Supers.{IsSuper, super_at, super_bytes, volume_of}
 use Rattle.vx_log.specs.Batches.{sectors_of as names_of, noted_at}
 use Rattle.vx_log.specs.NoteLaws.{NoteLaws}
 use Rattle.vx_replay.specs.BadImages.{bad, with_room, with_log, checked_again, first_super, IsBadLog}
 use Rattle.vx_replay.specs.Fronts.{CanLoad, IsFrontOf}
-use Rattle.vx_replay.specs.Stopped.{IsReadFrom, noted_all}
+use Rattle.vx_replay.specs.Stopped.{IsReadFrom}
 use Rattle.vx_sound.specs.Sound.{IsSound, IsBadMeta}
-use Rattle.vx_replay.specs.ImageChecks.{HasFront, HasLast, HasBadMeta, IsFault, IsPassed, LeavesBadSuper, PassesCheck, laid, meta_refusal, refusal_of}
+use Rattle.vx_replay.specs.ImageChecks.{CanMount, HasCleanFront, HasFront, HasLast, HasBadMeta, IsFault, IsPassed, LeavesBadSuper, PassesCheck, laid, meta_refusal, refusal_of}
 use Rattle.vx_check.specs.Parts.{IsStopped}
 use Rattle.vx_check.specs.declared.stop.Stop.{Stop}
 use Rattle.vx_check.specs.declared.stop.Stop.TheVariants as stop
 use Rattle.vx_layout.specs.Places.{Volume}
 use Rattle.vx_replay.specs.declared.image_check.Checked.{Checked}
+use Rattle.vx_replay.specs.declared.image_check.CheckRefusal.TheVariants as no
+use Rattle.vx_replay.specs.declared.image_check.CleanFront.{CleanFront}
 use Rattle.vx_dev.specs.Tape.{State}
 use Rattle.vx_replay.specs.Refusals.{ReadCause, SuperCause}
 use Rattle.vx_replay.specs.declared.refusal.ReplayRefusal.{ReplayRefusal}
 use Rattle.vx_replay.specs.declared.refusal.ReplayRefusal.TheVariants as cannot
 use Rattle.vx_replay.specs.declared.load.Front.{Front}
 use Rattle.vx_replay.specs.declared.load.Stopped.{Stopped}
+use Rattle.vx_replay.proofs.Loading.{length_counts}
 use Rattle.vx_replay.proofs.Reread as reread
 
 -- ---- the superblock and the log
@@ -115,6 +118,15 @@ fault_first old new strict size image cannot.ReadFault cause super log = tt
 fault_first old new strict size image cannot.WriteFault cause super log = tt
 fault_first old new strict size image cannot.NoMemory cause super log = tt
 
+-- ... for nothing of its metadata
+pub never_meta : (old new : State) (why : ReplayRefusal) (sector : ℕ) → ReadCause old new why → refusal_of why ≡ no.BadMeta sector → ⊥
+never_meta old new (cannot.BadSuper field) sector cause is = absurd cc
+never_meta old new (cannot.BadLog at) sector cause is = absurd cc
+never_meta old new (cannot.BadMeta at) sector cause is = absurd cause
+never_meta old new cannot.ReadFault sector cause is = absurd cc
+never_meta old new cannot.WriteFault sector cause is = absurd cause
+never_meta old new cannot.NoMemory sector cause is = absurd cc
+
 -- what the records leave was refused
 pub fault_last : (strict : Bool) (size : ℕ) (image : ℕ → List ℕ) (why : ReplayRefusal) → SuperCause why → ((field : ℕ) → why ≡ cannot.BadSuper field → LeavesBadSuper strict size image field) → IsFault strict size image (refusal_of why)
 fault_last strict size image (cannot.BadSuper field) cause super = inr (super field refl)
@@ -173,3 +185,40 @@ pub bad_there : (strict : Bool) (v : Volume) (image : ℕ → List ℕ) (why : S
 bad_there strict v image (stop.BadMeta s) sector is h = subst (IsBadMeta strict v image) (let same : s ≡ sector = cc in same) h
 bad_there strict v image stop.ReadFault sector is h = absurd cc
 bad_there strict v image stop.NoMemory sector is h = absurd cc
+
+-- ---- the front of a clean image
+
+no_records : (tail head : ℕ) (rs : List (List AfterImage)) → head ≡ tail + length (log_sectors tail rs) → tail ≡ head → rs ≡ []
+no_records tail head [] ends level = refl
+no_records tail head (r ∷ rs) ends level = absurd (omega (arith, ends, level, length_counts tail (r ∷ rs)))
+
+module _ (again : (v : Super) → IsSuper v → super_at (super_bytes v) ≡ Ok v) (size : ℕ) (image : ℕ → List ℕ) (c : CleanFront) (can : CanMount size c) (h : HasCleanFront size image c) where
+  none : h.front.records ≡ []
+  none = no_records h.front.log.ends.tail h.front.log.ends.head h.front.records h.front.log.are.ends (h.front.level refl)
+
+  -- nothing is laid over it
+  bare : laid h.front.records image ≡ image
+  bare = λ i q. pointwise q i
+    where
+      pointwise : (q : ℕ) → overlay_all h.front.records q (image q) ≡ image q
+      pointwise q = ap (λ (rs : List (List AfterImage)). overlay_all rs q (image q)) none
+
+  pub clean_last : checked_again size h.front.first.log_blocks (laid h.front.records image 0) ≡ Ok h.front.first
+  clean_last = last_of size h.front.first h.front.first (laid h.front.records image 0) again (subst IsSuper (sym h.first) can.is_super)
+      (ap (λ (rs : List (List AfterImage)). overlay_all rs 0 (image 0)) none ∙ h.superblock_is ∙ ap super_bytes (sym h.first)) refl
+      (subst (λ (v : Super). sectors_of (volume_of v) ≤ size) (sym h.first) can.room)
+
+  abbrev pub clean_whole : HasLast true size image
+  clean_whole = record { front = h.front; last = h.front.first; last_is = clean_last }
+
+  pub clean_passes : IsSound true (volume_of c.superblock) image → PassesCheck true size image
+  clean_passes sound = record {
+    whole = clean_whole;
+    sound = subst (IsSound true (volume_of h.front.first)) (sym bare) (subst (λ (v : Super). IsSound true (volume_of v) image) (sym h.first) sound);
+  }
+
+  pub clean_fails : (sector : ℕ) → IsBadMeta true (volume_of c.superblock) image sector → HasBadMeta true size image sector
+  clean_fails sector first = record {
+    whole = clean_whole;
+    first_fault = subst (λ (over : ℕ → List ℕ). IsBadMeta true (volume_of h.front.first) over sector) (sym bare) (subst (λ (v : Super). IsBadMeta true (volume_of v) image sector) (sym h.first) first);
+  }

@@ -1,13 +1,16 @@
 -- When an image passes its check, and the first fault of one that does not.
-use Rattle.std.specs.Prelude.{◌≡◌, ◌⊎◌, ℕ, Bool, true, false, List, Ok}
+use Rattle.std.specs.Prelude.{◌≡◌, ◌⊎◌, ◌*◌, ◌≤◌, ℕ, Bool, true, false, List, Ok}
 use Rattle.vx_layout.specs.declared.superblock.Super.{Super}
 use Rattle.vx_layout.specs.LogForms.{AfterImage, overlay_all}
-use Rattle.vx_layout.specs.Supers.{volume_of}
+use Rattle.vx_layout.specs.Places.{sectors_of}
+use Rattle.vx_layout.specs.Supers.{IsSuper, super_bytes, volume_of}
+use Rattle.vx_log.specs.Ends.{IsEnds, ends_bytes}
 use Rattle.vx_sound.specs.Sound.{IsSound, IsBadMeta}
 use Rattle.vx_check.specs.declared.stop.Stop.{Stop}
 use Rattle.vx_check.specs.declared.stop.Stop.TheVariants as stop
 use Rattle.vx_replay.specs.BadImages.{bad, checked_again, first_super, HasLog, IsBadLog}
 use Rattle.vx_replay.specs.declared.image_check.Checked.{Checked}
+use Rattle.vx_replay.specs.declared.image_check.CleanFront.{CleanFront}
 use Rattle.vx_replay.specs.declared.image_check.CheckRefusal.{CheckRefusal}
 use Rattle.vx_replay.specs.declared.image_check.CheckRefusal.TheVariants as no
 use Rattle.vx_replay.specs.declared.refusal.ReplayRefusal.{ReplayRefusal}
@@ -91,3 +94,21 @@ IsFault strict size image (no.NotClean tail head) = (strict ≡ true) × IsNotCl
 IsFault strict size image (no.BadMeta sector) = HasBadMeta strict size image sector
 IsFault strict size image no.ReadFault = Unit {0}
 IsFault strict size image no.NoMemory = Unit {0}
+
+-- ---- the superblock and the log of a clean image
+
+-- what was read is of the right form, on a device of so many sectors
+pub record CanMount (size : ℕ) (c : CleanFront) : Type 0 where
+  pub is_super : IsSuper c.superblock
+  pub clean : c.superblock.clean ≡ true
+  pub room : sectors_of (volume_of c.superblock) ≤ size
+  pub is_ends : IsEnds (2 * c.superblock.log_blocks) c.ends
+  pub level : c.ends.tail ≡ c.ends.head
+
+-- the image was left clean, with this superblock and this head sector
+pub record HasCleanFront (size : ℕ) (image : ℕ → List ℕ) (c : CleanFront) : Type 0 where
+  pub front : HasFront true size image
+  pub first : front.first ≡ c.superblock
+  pub ends : front.log.ends ≡ c.ends
+  pub superblock_is : image 0 ≡ super_bytes c.superblock
+  pub head_is : image 2 ≡ ends_bytes c.ends

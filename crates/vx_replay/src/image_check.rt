@@ -1,12 +1,13 @@
 //! The image check.
-ghost use Rattle.std.specs.Prelude.{◌≡◌, ◌==◌, ◌&&◌, ◌||◌, not, ℕ, IfOk, IfErr, Err, Bool};
+ghost use Rattle.std.specs.Prelude.{◌≡◌, ◌==◌, ◌&&◌, ◌||◌, not, true, ℕ, IfOk, IfErr, Err, Bool};
 ghost use Rattle.vx_base.specs.Faults.{Rose};
 ghost use Rattle.vx_dev.specs.Tape.{Tape, now};
 ghost use Rattle.vx_replay.specs.LogReads.{Shows, IsRead};
 ghost use Rattle.vx_check.specs.Parts.{IsChecked};
 ghost use Rattle.vx_layout.specs.Supers.{volume_of};
 ghost use Rattle.vx_replay.specs.Stopped.{CanCarry, IsReadFrom};
-ghost use Rattle.vx_replay.specs.ImageChecks.{IsPassed, IsFault, laid, refusal_of};
+ghost use Rattle.vx_replay.specs.Fronts.{CanLoad, IsFrontOf};
+ghost use Rattle.vx_replay.specs.ImageChecks.{CanMount, HasCleanFront, IsPassed, IsFault, laid, refusal_of};
 
 use crate::load::{Front, Stopped, loaded, read_front};
 use crate::refusal::ReplayRefusal;
@@ -14,7 +15,7 @@ use std::alloc::Global;
 use vx_check::{Stop, check_overlaid};
 use vx_dev::BlockDev;
 use vx_layout::{Super, super_places, super_spelling};
-use vx_log::note_laws;
+use vx_log::{Ends, note_laws};
 
 /// What the check read of an image that passes it.
 #[derive(Clone, Copy, Debug)]
@@ -25,6 +26,13 @@ pub struct Checked {
     pub tail: u64,
     /// Where it ends.
     pub head: u64,
+}
+
+/// What a mount begins with: the superblock and the head sector of an image that was left clean, with an empty log.
+#[derive(Clone, Copy, Debug)]
+pub struct CleanFront {
+    pub superblock: Super,
+    pub ends: Ends,
 }
 
 /// Why an image does not pass its check: its first fault, in the order of docs/CHECK.md.
@@ -58,15 +66,12 @@ pub fn check<D: BlockDev>(alloc: Global, dev: &mut D, strict: bool) -> Result<Ch
     super_spelling();
     note_laws();
     let size = dev.sectors();
-    let front = match read_front(alloc, dev) {
+    let front = match read_settled(alloc, dev, strict) {
         Ok(front) => front,
-        Err(why) => return Err(refusal_of(why)),
+        Err(why) => return Err(why),
     };
     let tail = front.log.ends.tail;
     let head = front.log.ends.head;
-    if is_unsettled(&front, strict) {
-        return Err(CheckRefusal::NotClean { tail, head });
-    }
     let stopped = match loaded(alloc, size, front) {
         Ok(stopped) => stopped,
         Err(why) => return Err(refusal_of(why)),
@@ -83,6 +88,59 @@ pub fn check<D: BlockDev>(alloc: Global, dev: &mut D, strict: bool) -> Result<Ch
         Err(Stop::ReadFault) => Err(CheckRefusal::ReadFault),
         Err(Stop::NoMemory) => Err(CheckRefusal::NoMemory),
     }
+}
+
+/// Reads what a mount of an image that was left clean begins with, and does no operation. No metadata are looked at.
+///
+/// # Errors
+///
+/// The first fault of the superblock or the log, in the order of docs/CHECK.md; or the log holds records, or the image was not left clean;
+/// or a sector could not be read, or memory is short.
+pub fn check_clean_front<D: BlockDev>(
+    alloc: Global,
+    dev: &mut D,
+) -> Result<CleanFront, CheckRefusal>
+    ensures is { IfOk result (CanMount (D.state dev.old).size) }
+    ensures shows { (t : Tape) → Shows (D.state dev.old) t → IfOk result (HasCleanFront (D.state dev.old).size (now t)) }
+    ensures fault { (t : Tape) → Shows (D.state dev.old) t → IfErr result (IsFault true (D.state dev.old).size (now t)) }
+    ensures never { (sector : ℕ) → result ≡ Err (CheckRefusal.BadMeta sector) → ⊥ }
+    ensures unwritten { IsRead (D.state dev.old) (D.state dev.new) }
+    ensures cause { result ≡ Err CheckRefusal.ReadFault → Rose (D.state dev.old).read_faults (D.state dev.new).read_faults }
+{
+    match read_settled(alloc, dev, true) {
+        Ok(front) => Ok(CleanFront {
+            superblock: front.first,
+            ends: front.log.ends,
+        }),
+        Err(why) => Err(why),
+    }
+}
+
+/// Reads the superblock and the log. Where `strict`, the log has to be empty and the image left clean.
+fn read_settled<D: BlockDev>(
+    alloc: Global,
+    dev: &mut D,
+    strict: bool,
+) -> Result<Front, CheckRefusal>
+    ensures sound { IfOk result (CanLoad (D.state dev.old).size) }
+    ensures settled { IfOk result (λ f. strict ≡ true → (f.log.ends.tail ≡ f.log.ends.head) × (f.first.clean ≡ true)) }
+    ensures front { (t : Tape) → Shows (D.state dev.old) t → IfOk result (IsFrontOf (D.state dev.old).size (now t)) }
+    ensures fault { (t : Tape) → Shows (D.state dev.old) t → IfErr result (IsFault strict (D.state dev.old).size (now t)) }
+    ensures never { (sector : ℕ) → result ≡ Err (CheckRefusal.BadMeta sector) → ⊥ }
+    ensures unwritten { IsRead (D.state dev.old) (D.state dev.new) }
+    ensures cause { result ≡ Err CheckRefusal.ReadFault → Rose (D.state dev.old).read_faults (D.state dev.new).read_faults }
+{
+    let front = match read_front(alloc, dev) {
+        Ok(front) => front,
+        Err(why) => return Err(refusal_of(why)),
+    };
+    if is_unsettled(&front, strict) {
+        return Err(CheckRefusal::NotClean {
+            tail: front.log.ends.tail,
+            head: front.log.ends.head,
+        });
+    }
+    Ok(front)
 }
 
 /// Whether the log has to be empty and the image left clean, and one of the two is not so.

@@ -9,8 +9,8 @@ mod refusal;
 mod top;
 mod writing;
 
-pub use image_check::{CheckRefusal, Checked, check};
-pub use laws::never_refused;
+pub use image_check::{CheckRefusal, Checked, CleanFront, check, check_clean_front};
+pub use laws::{clean_front_laws, never_refused};
 pub use refusal::ReplayRefusal;
 pub use top::{Recovered, replay};
 

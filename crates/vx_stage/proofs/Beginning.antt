@@ -1,24 +1,25 @@
 -- A mount begins: an empty log, and an empty history.
-use Rattle.std.proofs.Common.{◌≡◌, ℕ, zero, suc, ◌+◌, ◌<◌, ◌≤◌, ◌^◌, Bool, true, false, cond, List, [], length, Option, Some, None, refl, sym, ap, subst, ◌∙◌, arith, inl, inr}
+use Rattle.std.proofs.Common.{◌≡◌, ℕ, zero, suc, ◌+◌, ◌<◌, ◌≤◌, ◌^◌, Bool, true, false, cond, List, [], ◌∷◌, length, Option, Some, None, refl, sym, ap, subst, ◌∙◌, arith, inl, inr, length-append}
 use Rattle.std.specs.Prelude.{◌||◌, ◌==◌, is_some, IfSome, IsTrue, option_map, All, slice_get}
+use Rattle.std.specs.Option.{unwrap_or}
 use Rattle.std.specs.FinMap as map
 use Rattle.std.specs.Ordering.{nat_cmp}
 use Rattle.std.proofs.lemmas.Bool.{eqb-true, ne_eqb}
 use Rattle.std.proofs.lemmas.List.Elements.{All-nil}
 use Rattle.vx_base.specs.declared.event.Event.{Event}
-use Rattle.vx_base.specs.declared.inode.DirEntry.{DirEntry}
 use Rattle.vx_dev.specs.declared.device.Operation.{Operation}
 use Rattle.vx_dev.specs.declared.device.Operation.TheVariants.{Put, Barrier}
-use Rattle.vx_dev.specs.Tape.{Tape, State as Device, Did, DidNothing, Failed, did, tried, MayHold, Settles, IsImage, IsInStep}
+use Rattle.vx_dev.specs.Tape.{Tape, State as Device, Did, DidNothing, Failed, did, tried, MayHold, now, Settles, IsImage, IsInStep}
 use Rattle.vx_sound.specs.Reading.{Form, form_bytes}
 use Rattle.vx_layout.specs.LogForms.{AfterImage, IsHomeSector, LogState}
 use Rattle.vx_layout.specs.Places.{Volume, is_data, block_sector, sector_part}
 use Rattle.vx_layout.specs.Supers.{IsSuper, super_bytes, volume_of}
 use Rattle.vx_layout.specs.declared.superblock.Super.{Super}
 use Rattle.vx_log.specs.Crashes.{Stands}
-use Rattle.vx_dev.specs.Moments.{Told, Passed}
+use Rattle.vx_dev.specs.Moments.{Told, Always, Passed}
+use Rattle.vx_dev.specs.Runs.{did_all}
 use Rattle.vx_log.specs.declared.log.Closing.{Closing}
-use Rattle.vx_dev.proofs.Claims.{passed_did, passed_still, passed_join, told_weaker}
+use Rattle.vx_dev.proofs.Claims.{told_did, passed_did, passed_still, passed_join, told_weaker}
 use Rattle.vx_model.specs.AllowedLaws.{IsPlaced}
 use Rattle.vx_model.specs.Contents.{parsed_of}
 use Rattle.vx_model.specs.Images.{is_metadata, contents, content_at}
@@ -30,7 +31,7 @@ use Rattle.vx_model.specs.Waiting.{IsNamed}
 use Rattle.vx_log.specs.Batches.{noted_at}
 use Rattle.vx_model.specs.Allowed.{HoldsFront}
 use Rattle.vx_stage.specs.Leads.{state_at}
-use Rattle.vx_stage.specs.Kernels.{mounted_super, log_size, IsMounted, IsReadingOf, IsNoted, IsLevel, IsBegun, HasRun, Now, IsLive, present}
+use Rattle.vx_stage.specs.Kernels.{mounted_super, log_size, IsMounted, IsReadingOf, IsNoted, IsLevel, IsLeftAs, IsBegun, HasRun, Now, IsLive, present}
 use Rattle.vx_stage.specs.KernelLaws.{KernelLaws}
 use Rattle.vx_stage.specs.Leads.{Leads, AreYoung}
 use Rattle.vx_stage.specs.declared.kernel.Job.{Job}
@@ -192,11 +193,11 @@ module _ (k : Kernel) (s : State) (empty : k.history.items ≡ []) (committed : 
 -- ---- a clean image is marked as mounted
 
 did_told : (op : Operation) (a b : Device) (P Q : Tape → Type 0) → Did op a b → ((t : Tape) → P t → Q (did op t)) → Told a P → Told b Q
-did_told op a b P Q d f h = subst (λ (x : Option Tape). IfSome x Q) (sym d.told) (by_cases a.told h)
-  where
-    by_cases : (x : Option Tape) → IfSome x P → IfSome (option_map (did op) x) Q
-    by_cases None k = tt
-    by_cases (Some t) k = f t k
+did_told op a b P Q d f h = told_did op a.told b.told P Q d.told f h
+
+there : (x : Option (List ℕ)) (y : List ℕ) → IfSome x (λ bytes. y ≡ bytes) → IsTrue (is_some x) → y ≡ unwrap_or x []
+there (Some bytes) y is some = is
+there None y is some = absurd cc
 
 module _ (laws : KernelLaws) (v : Super) (s : State) (is_super : IsSuper v) (m : IsMounted v s) (serial position : ℕ) where
   abbrev super : List ℕ
@@ -217,39 +218,63 @@ module _ (laws : KernelLaws) (v : Super) (s : State) (is_super : IsSuper v) (m :
   put_at : (t : Tape) → Level t → IsMarked (did (Put 0 super) t)
   put_at t l = (level_write laws v s is_super m serial position t (Put 0 super) super (laws.tape.put_writes 0 super) (inl refl) l, laws.tape.put_settles t 0 super)
 
-  module _ (a b : Device) (told : Told a Level) (first : Did Barrier a b) where
-    level_b : Told b Level
-    level_b = did_told Barrier a b Level Level first (level_barrier laws v s is_super m serial position) told
+  -- behind a barrier a crash leaves what the device held
+  left_level : (t : Tape) → IsLeftAs v s serial position (now t) → Level (did Barrier t)
+  left_level t left = record {
+    metadata = λ q x named may. one q x may ∙ there (content_at (volume_of v) (parsed_of s) q) (now t q) (left.metadata q) named;
+    head = λ x may. one 2 x may ∙ left.head;
+    superblock = λ x may. inr (one 0 x may ∙ left.superblock);
+    serial_limit = left.serial_limit;
+    limit = left.limit;
+  }
+    where
+      one : (q : ℕ) (x : List ℕ) → MayHold (did Barrier t) q x → x ≡ now t q
+      one q x may = laws.tape.barrier_leaves_one t q x may ∙ laws.tape.barrier_keeps t q
 
-    pub first_passed : Passed Same a b
-    first_passed = passed_did Same Barrier a b first (shown a told) (shown b level_b)
+  module _ (a : Device) (t : Tape) (told : a.told ≡ Some t) (left : IsLeftAs v s serial position (now t)) where
+    -- no moment behind the first barrier has come
+    pub first_failed : (b : Device) → DidNothing a b → Told b (Always (length t.ops + 1) (λ _ image. Same image))
+    first_failed b nothing_ = subst (λ (o : Option Tape). IfSome o (Always (length t.ops + 1) (λ _ image. Same image))) (sym (nothing_.told ∙ told)) (λ n from to image is. absurd (omega (arith, from, to)))
 
-    pub put_failed : (c : Device) → Failed 0 super b c → Passed Same a c
-    put_failed c failed = passed_join Same a b c first_passed (elim failed.did [
-      | inl done ↦ passed_did Same (tried 0 super) b c done (shown b level_b) (shown c (did_told (tried 0 super) b c Level Level done
-          (λ t l. level_write laws v s is_super m serial position t (tried 0 super) super (laws.tape.failed_writes 0 super) (inl refl) l) level_b))
-      | inr nothing_ ↦ passed_still Same b c nothing_.told (shown b level_b)
-    ])
+    module _ (b : Device) (first : Did Barrier a b) where
+      told_b : b.told ≡ Some (did Barrier t)
+      told_b = first.told ∙ ap (option_map (did Barrier)) told
 
-    module _ (c : Device) (second : Did (Put 0 super) b c) where
-      marked : Told c IsMarked
-      marked = did_told (Put 0 super) b c Level IsMarked second put_at level_b
+      level_b : Told b Level
+      level_b = subst (λ (o : Option Tape). IfSome o Level) (sym told_b) (left_level t left)
 
-      level_c : Told c Level
-      level_c = told_weaker c IsMarked Level (λ t h. h.0) marked
+      -- from the first barrier on
+      kept : (d : Device) → Passed Same b d → Told d (Always (length t.ops + 1) (λ _ image. Same image))
+      kept d p =
+          let one : Tape = did Barrier t in
+          let count : length one.ops ≡ length t.ops + 1 = length-append t.ops (Barrier ∷ []) in
+          let told_d : d.told ≡ Some (did_all p.ops one) = p.told ∙ ap (option_map (did_all p.ops)) told_b in
+          let always : Always (length one.ops) (λ _ image. Same image) (did_all p.ops one) = subst (λ (o : Option Tape). IfSome o (λ u. Always (length u.ops) (λ _ image. Same image) (did_all p.ops u))) told_b p.always in
+          subst (λ (o : Option Tape). IfSome o (Always (length t.ops + 1) (λ _ image. Same image))) (sym told_d) (subst (λ (n : ℕ). Always n (λ _ image. Same image) (did_all p.ops one)) count always)
 
-      put_passed : Passed Same a c
-      put_passed = passed_join Same a b c first_passed (passed_did Same (Put 0 super) b c second (shown b level_b) (shown c level_c))
+      pub put_failed : (c : Device) → Failed 0 super b c → Told c (Always (length t.ops + 1) (λ _ image. Same image))
+      put_failed c failed = kept c (elim failed.did [
+        | inl done ↦ passed_did Same (tried 0 super) b c done (shown b level_b) (shown c (did_told (tried 0 super) b c Level Level done
+            (λ u l. level_write laws v s is_super m serial position u (tried 0 super) super (laws.tape.failed_writes 0 super) (inl refl) l) level_b))
+        | inr nothing_ ↦ passed_still Same b c nothing_.told (shown b level_b)
+      ])
 
-      pub last_failed : (d : Device) → DidNothing c d → Passed Same a d
-      last_failed d nothing_ = passed_join Same a c d put_passed (passed_still Same c d nothing_.told (shown c level_c))
+      module _ (c : Device) (second : Did (Put 0 super) b c) where
+        marked : Told c IsMarked
+        marked = did_told (Put 0 super) b c Level IsMarked second put_at level_b
 
-      pub last_passed : (d : Device) → Did Barrier c d → Passed Same a d
-      last_passed d last = passed_join Same a c d put_passed (passed_did Same Barrier c d last (shown c level_c)
-          (shown d (did_told Barrier c d IsMarked Level last (λ t h. level_barrier laws v s is_super m serial position t h.0) marked)))
+        level_c : Told c Level
+        level_c = told_weaker c IsMarked Level (λ u h. h.0) marked
 
-      pub begun : (d : Device) → Did Barrier c d → Told d (IsBegun v s serial position)
-      begun d last = did_told Barrier c d IsMarked (IsBegun v s serial position) last (λ t h. begun_at laws v s is_super m serial position t h.0 h.1) marked
+        put_passed : Passed Same b c
+        put_passed = passed_did Same (Put 0 super) b c second (shown b level_b) (shown c level_c)
 
-  pub first_failed : (a b : Device) → Told a Level → DidNothing a b → Passed Same a b
-  first_failed a b told nothing_ = passed_still Same a b nothing_.told (shown a told)
+        pub last_failed : (d : Device) → DidNothing c d → Told d (Always (length t.ops + 1) (λ _ image. Same image))
+        last_failed d nothing_ = kept d (passed_join Same b c d put_passed (passed_still Same c d nothing_.told (shown c level_c)))
+
+        pub last_passed : (d : Device) → Did Barrier c d → Told d (Always (length t.ops + 1) (λ _ image. Same image))
+        last_passed d last = kept d (passed_join Same b c d put_passed (passed_did Same Barrier c d last (shown c level_c)
+            (shown d (did_told Barrier c d IsMarked Level last (λ u h. level_barrier laws v s is_super m serial position u h.0) marked))))
+
+        pub begun : (d : Device) → Did Barrier c d → Told d (IsBegun v s serial position)
+        begun d last = did_told Barrier c d IsMarked (IsBegun v s serial position) last (λ u h. begun_at laws v s is_super m serial position u h.0 h.1) marked

@@ -1,11 +1,10 @@
 -- The closing batch joins the log: its head sector is written.
 use Rattle.std.proofs.Common.{◌≡◌, ◌⊎◌, ℕ, ◌+◌, ◌<◌, ◌≤◌, ◌^◌, Bool, true, false, cond, List, [], ◌∷◌, ◌++◌, length, Option, Some, None, refl, sym, ap, subst, ◌∙◌, arith, inl, inr}
-use Rattle.std.specs.Prelude.{◌||◌, ◌&&◌, ◌==◌, is_some, is_none, IsTrue, IfSome, All, option_map}
+use Rattle.std.specs.Prelude.{◌||◌, ◌==◌, is_some, IsTrue, IfSome, All, option_map}
 use Rattle.std.specs.List.{AllByRecursion}
 use Rattle.std.specs.List.Sorted.{IsStrictlyIncreasing}
 use Rattle.std.proofs.lemmas.Bool.{eqb-true}
 use Rattle.std.proofs.lemmas.List.Elements.{All-head, All-tail}
-use Rattle.vx_base.specs.declared.inode.DirEntry.{DirEntry}
 use Rattle.vx_dev.specs.Tape.{State as Device}
 use Rattle.vx_sound.specs.Reading.{Form, form_bytes}
 use Rattle.vx_layout.specs.LogForms.{AfterImage, IsNameable, IsRecord, LogState, log_length, records_of, overlay, overlay_all}
@@ -19,7 +18,7 @@ use Rattle.vx_log.specs.declared.log.Closing.{Closing}
 use Rattle.vx_log.specs.Batches.{with_notes, noted_at}
 use Rattle.vx_model.specs.Contents.{parsed_of}
 use Rattle.vx_model.specs.Images.{is_metadata, content_at}
-use Rattle.vx_model.specs.Layout.{Layout, volume}
+use Rattle.vx_model.specs.Layout.{volume}
 use Rattle.vx_model.specs.LaidOut.{HoldsData}
 use Rattle.vx_model.specs.Legal.{World}
 use Rattle.vx_model.specs.State.{State}

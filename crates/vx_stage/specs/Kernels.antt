@@ -16,6 +16,7 @@ use Rattle.vx_log.specs.declared.log.Closing.{Closing}
 use Rattle.vx_log.specs.Batches.{noted_at}
 use Rattle.vx_model.specs.AllowedLaws.{IsPlaced}
 use Rattle.vx_model.specs.Contents.{parsed_of}
+use Rattle.vx_model.specs.Images as images
 use Rattle.vx_model.specs.Images.{Says, is_metadata, contents}
 use Rattle.vx_wellformed.specs.WellFormed.{IsWellFormed}
 use Rattle.vx_model.specs.Legal.{World, Waiting, Legal, at_of, after_all}
@@ -87,6 +88,15 @@ pub record IsLevel (v : Super) (s : State) (serial position : ℕ) (t : Tape) : 
 pub record IsBegun (v : Super) (s : State) (serial position : ℕ) (t : Tape) : Type 0 where
   pub level : IsLevel v s serial position t
   pub mounted : (x : List ℕ) → MayHold t 0 x → x ≡ super_bytes (mounted_super v)
+
+-- What an image holds that was left clean: an empty log whose head sector says this serial and position, the metadata that the state
+-- says, and the superblock of a clean file system.
+pub record IsLeftAs (v : Super) (s : State) (serial position : ℕ) (image : ℕ → List ℕ) : Type 0 where
+  pub metadata : images.Stands (volume_of v) (parsed_of s) image
+  pub head : image 2 ≡ head_sector serial position position
+  pub superblock : image 0 ≡ super_bytes (clean_super v)
+  pub serial_limit : serial < 2 ^ 64
+  pub limit : position ≤ 2 ^ 62
 
 -- ---- the kernel in memory
 

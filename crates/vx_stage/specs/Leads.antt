@@ -1,5 +1,5 @@
 -- Batches that lead from one state to a later one, over the transactions of several calls.
-use Rattle.std.specs.Prelude.{◌≡◌, ◌⊎◌, ◌<◌, ◌≤◌, ◌+◌, ℕ, true, List, take, Option, Some, None, IfSome, IsTrue}
+use Rattle.std.specs.Prelude.{◌≡◌, ◌⊎◌, ◌<◌, ◌≤◌, ◌+◌, ℕ, List, take, Option, Some, None, IfSome, IsTrue}
 use Rattle.vx_base.specs.declared.event.Event.{Event}
 use Rattle.vx_layout.specs.Places.{Volume, is_data, block_sector}
 use Rattle.vx_layout.specs.LogForms.{AfterImage}

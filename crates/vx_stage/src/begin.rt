@@ -1,16 +1,16 @@
 //! Where a mount begins.
-ghost use Rattle.std.specs.Prelude.{◌≡◌, ◌<◌, ◌≤◌, ◌+◌, ◌^◌, ℕ, [], Some, None, IsNone, IfOk, OnOk, OnErr};
+ghost use Rattle.std.specs.Prelude.{◌≡◌, ◌<◌, ◌≤◌, ◌+◌, ℕ, [], length, Some, None, IsNone, IfOk, OnOk, OnErr};
 ghost use Rattle.vx_log.specs.Logs.{fresh_log};
 ghost use Rattle.vx_mkfs.specs.Formats.{format_operations};
 ghost use Rattle.vx_base.specs.Faults.{HasCause};
 ghost use Rattle.vx_dev.specs.Runs.{Onward};
-ghost use Rattle.vx_dev.specs.Tape.{IsInStep, State as Device};
+ghost use Rattle.vx_dev.specs.Tape.{IsInStep, State as Device, Tape, now};
 ghost use Rattle.vx_layout.specs.Supers.{IsSuper};
-ghost use Rattle.vx_dev.specs.Moments.{Told, Passed};
+ghost use Rattle.vx_dev.specs.Moments.{Told, Always};
 ghost use Rattle.vx_model.specs.Legal.{opening};
 ghost use Rattle.vx_model.specs.Replays.{ReplaysAs};
 ghost use Rattle.vx_model.specs.State.{State, directory_blocks, fresh_of};
-ghost use Rattle.vx_stage.specs.Kernels.{log_size, device_size, IsFit, IsFitAlone, IsMounted, IsLevel, IsBegun, HasRun, IsLive};
+ghost use Rattle.vx_stage.specs.Kernels.{log_size, device_size, IsFit, IsFitAlone, IsMounted, IsLeftAs, IsBegun, HasRun, IsLive};
 ghost use Rattle.vx_stage.specs.declared.kernel.Job.TheVariants.{Idle};
 
 use crate::kernel::{Job, Kernel};
@@ -72,14 +72,23 @@ impl Kernel {
     }
 }
 
-/// Makes the superblock that of a mounted file system, on a device whose log is empty: a barrier, the superblock, a barrier. Whatever a
-/// crash leaves meanwhile replays as the same tree.
+/// Makes the superblock that of a mounted file system, where the device holds an image that was left clean: a barrier, the superblock, a
+/// barrier. From the first barrier on whatever a crash leaves replays as the same tree.
+///
+/// # Errors
+///
+/// A write or a barrier failed.
 pub fn mark<D: BlockDev>(dev: &mut D, sizes: &Super) -> Result<(), DevFault>
     requires is { IsSuper sizes.now }
     requires size { device_size sizes.now ≤ (D.state dev.old).size }
-    ensures begun { (s : State) (serial position : ℕ) → IsMounted sizes.now s → Told (D.state dev.old) (IsLevel sizes.now s serial position) → OnOk result (Told (D.state dev.new) (IsBegun sizes.now s serial position)) }
-    ensures passed { (s : State) (serial position : ℕ) → IsMounted sizes.now s → Told (D.state dev.old) (IsLevel sizes.now s serial position) → Passed (λ image. ReplaysAs s.layout.device_sectors image s.tree) (D.state dev.old) (D.state dev.new) }
-    ensures size { (D.state dev.new).size ≡ (D.state dev.old).size }
+    ensures begun { (s : State) (serial position : ℕ) (t : Tape) → IsMounted sizes.now s → (D.state dev.old).told ≡ Some t → IsLeftAs sizes.now s serial position (now t)
+        → OnOk result (Told (D.state dev.new) (IsBegun sizes.now s serial position)) }
+    ensures kept { (s : State) (serial position : ℕ) (t : Tape) → IsMounted sizes.now s → (D.state dev.old).told ≡ Some t → IsLeftAs sizes.now s serial position (now t)
+        → Told (D.state dev.new) (Always (length t.ops + 1) (λ _ image. ReplaysAs s.layout.device_sectors image s.tree)) }
+    ensures untold { (D.state dev.old).told ≡ None → (D.state dev.new).told ≡ None }
+    ensures onward { Onward (D.state dev.old) (D.state dev.new) }
+    ensures count { OnOk result ((D.state dev.new).count ≡ (D.state dev.old).count + 3) }
+    ensures fewer { OnErr result ((D.state dev.new).count < (D.state dev.old).count + 3) }
     ensures cause { HasCause (D.state dev.old).write_faults (D.state dev.new).write_faults result }
 {
     // The proof rests on these laws; nothing runs here.
@@ -135,6 +144,47 @@ pub fn new_mount<D: BlockDev>(
         clean: false,
     };
     make(dev, &superblock)?;
+    let first = dev.ops();
+    Ok(Kernel::begin(sizes, logging, first, room))
+}
+
+/// Mounts the file system of these sizes that was left clean on the device, with an empty history. The log stands where its head sector
+/// says.
+///
+/// # Errors
+///
+/// A write or a barrier failed; the device then holds the file system as before, and it may no longer be marked clean.
+pub fn mount_image<D: BlockDev>(
+    dev: &mut D,
+    sizes: Super,
+    logging: Logging,
+    room: Room,
+) -> Result<Kernel, DevFault>
+    requires is { IsSuper sizes }
+    requires size { device_size sizes ≤ (D.state dev.old).size }
+    requires sectors { room.log.sectors ≡ log_size sizes }
+    requires free { IsNone room.log.closing }
+    requires level { room.log.tail ≡ room.log.head }
+    requires homes { room.homes ≡ [] }
+    requires gathered { room.gathered ≡ [] }
+    requires ready { room.ready ≡ [] }
+    requires history { room.history.items ≡ [] }
+    ensures fit { IfOk result (IsFit (D.state dev.new)) }
+    ensures run { (s : State) → IsMounted sizes s → ((b : ℕ) → s.layout.pending b ≡ None) → IfOk result (HasRun (opening (D.state dev.new).count s) (D.state dev.new)) }
+    ensures live { (s : State) (t : Tape) → IsMounted sizes s → (D.state dev.old).told ≡ Some t → IsLeftAs sizes s room.log.serial room.log.head (now t)
+        → IfOk result (λ k. Told (D.state dev.new) (IsLive (opening (D.state dev.new).count s) k)) }
+    // From the first barrier on whatever a crash leaves replays as the tree that was left.
+    ensures kept { (s : State) (t : Tape) → IsMounted sizes s → (D.state dev.old).told ≡ Some t → IsLeftAs sizes s room.log.serial room.log.head (now t)
+        → Told (D.state dev.new) (Always (length t.ops + 1) (λ _ image. ReplaysAs s.layout.device_sectors image s.tree)) }
+    ensures empty { IfOk result (λ k. k.history.items ≡ []) }
+    ensures same { IfOk result (λ k. k ≡ record { sizes = sizes; logging = logging; first = (D.state dev.new).count; log = room.log; homes = room.homes; gathered = room.gathered; ready = Some room.ready; job = Idle; committed = 0; closing = 0; history = room.history }) }
+    ensures untold { (D.state dev.old).told ≡ None → (D.state dev.new).told ≡ None }
+    ensures onward { Onward (D.state dev.old) (D.state dev.new) }
+    ensures count { OnOk result ((D.state dev.new).count ≡ (D.state dev.old).count + 3) }
+    ensures fewer { OnErr result ((D.state dev.new).count < (D.state dev.old).count + 3) }
+    ensures cause { HasCause (D.state dev.old).write_faults (D.state dev.new).write_faults result }
+{
+    mark(dev, &sizes)?;
     let first = dev.ops();
     Ok(Kernel::begin(sizes, logging, first, room))
 }

@@ -2,7 +2,7 @@
 ghost use Rattle.std.specs.Prelude.{◌≡◌, [], IfOk, length};
 ghost use Rattle.vx_log.specs.Logs.{fresh_log};
 
-use crate::{Job, Room, new_mount};
+use crate::{Job, Room, mount_image, new_mount};
 use std::alloc::{AllocError, Global};
 use std::test::Fail;
 use vx_base::{Logging, NumList};
@@ -10,6 +10,7 @@ use vx_dev::{BlockDev, Image, MemDisk};
 use vx_home::Homes;
 use vx_layout::Super;
 use vx_log::{Batch, Log};
+use vx_mkfs::make;
 
 const SIZES: Super = Super {
     log_blocks: 512,
@@ -53,5 +54,25 @@ fn a_new_mount_has_no_stage(rt: HostRuntime) -> Result<(), Fail> {
     kernel.facts(&disk);
     assert!(rt; kernel.has_place());
     assert!(rt; kernel.job == Job::Idle);
+    Ok(())
+}
+
+#[test]
+fn a_clean_image_is_mounted_by_three_operations(rt: HostRuntime) -> Result<(), Fail> {
+    let mut disk = disk(rt.alloc(), 9220)?;
+    let clean = Super {
+        clean: true,
+        ..SIZES
+    };
+    make(&mut disk, &clean)?;
+    assert_eq!(rt; disk.ops(), 70);
+    let room = room(rt.alloc())?;
+    let kernel = mount_image(&mut disk, SIZES, Logging::Log, room)?;
+    assert_eq!(rt; disk.ops(), 73);
+    assert!(rt; kernel.job == Job::Idle);
+    assert_eq!(rt; kernel.first, 73);
+    let mut sector = [0; 512];
+    disk.read(0, &mut sector)?;
+    assert!(rt; sector == SIZES.write());
     Ok(())
 }

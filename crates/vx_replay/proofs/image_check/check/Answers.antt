@@ -1,47 +1,24 @@
-use Rattle.std.proofs.Common.{◌≡◌, ℕ, Bool, true, false, List, sym, subst, ap, ◌∙◌, refl}
+use Rattle.std.proofs.Common.{◌≡◌, ℕ, List, sym, subst, ap, ◌∙◌, refl}
 use Rattle.std.specs.Prelude.{Err}
 use Rattle.vx_dev.specs.Tape.{now}
 use Rattle.vx_layout.specs.LogForms.{overlay_all}
-use Rattle.vx_replay.specs.BadImages.{bad, checked_again}
-use Rattle.vx_replay.specs.Fronts.{CanLoad, IsFrontOf}
+use Rattle.vx_replay.specs.BadImages.{checked_again}
+use Rattle.vx_replay.specs.Fronts.{IsFrontOf}
 use Rattle.vx_layout.specs.Supers.{volume_of}
 use Rattle.vx_check.specs.Parts.{IsStopped}
 use Rattle.vx_replay.specs.ImageChecks.{IsFault, IsPassed, HasBadMeta, laid}
 use Rattle.vx_replay.specs.Stopped.{IsReadFrom}
-use Rattle.vx_replay.specs.declared.image_check.CheckRefusal.{CheckRefusal}
 use Rattle.vx_replay.proofs.LogReading.{still_shows}
-use Rattle.vx_replay.proofs.ImageChecking.{front_of, unsettled, settled, fault_first, fault_last, passed, bad_meta}
+use Rattle.vx_replay.proofs.ImageChecking.{front_of, fault_last, passed, bad_meta}
 use Rattle.vx_replay.proofs.image_check.check.Goals as goal
-
-pub returns-in-Err-clause-fault : goal.returns-in-Err-clause-fault
-returns-in-Err-clause-fault g c = λ t shows.
-    let d = g.D.BlockDev.state c.args.dev.now in
-    subst (IsFault c.args.strict d.size (now t)) (sym c.refusal_of.ensures)
-    (fault_first d (g.D.BlockDev.state c.read_front.new.dev) c.args.strict d.size (now t) c.in-Err.why c.in-Err.ensures.cause
-    (λ field is. c.read_front.ensures.bad_super t field shows (c.in-Err.is ∙ ap Err is))
-    (λ sector is. c.read_front.ensures.bad_log t sector shows (c.in-Err.is ∙ ap Err is)))
-
-pub returns-then-is_unsettled-clause-fault : goal.returns-then-is_unsettled-clause-fault
-returns-then-is_unsettled-clause-fault g c = λ t shows.
-    let d = g.D.BlockDev.state c.args.dev.now in
-    let f = c.in-Ok.front in
-    let why = unsettled c.args.strict f.first.clean f.log.ends.tail f.log.ends.head (sym c.is_unsettled.ensures ∙ c.if-is_unsettled.true) in (
-      why.0,
-      record {
-        front = front_of false d.size (now t) f c.in-Ok.ensures.sound (c.in-Ok.ensures.front t shows) (λ e. absurd cc) (λ e. absurd cc);
-        tail_is = refl;
-        head_is = refl;
-        why = why.1;
-      },
-    )
 
 pub returns-in-Err-loaded-clause-fault : goal.returns-in-Err-loaded-clause-fault
 returns-in-Err-loaded-clause-fault g c = λ t shows.
     let d = g.D.BlockDev.state c.args.dev.now in
     let f = c.in-Ok.front in
     let is = c.in-Ok.ensures.front t shows in
-    let level = settled c.args.strict f.first.clean f.log.ends.tail f.log.ends.head (sym c.is_unsettled.ensures ∙ c.if-is_unsettled.false) in
-    subst (IsFault c.args.strict d.size (now t)) (sym c.refusal_of-in-Err-loaded.ensures)
+    let level = c.in-Ok.ensures.settled in
+    subst (IsFault c.args.strict d.size (now t)) (sym c.refusal_of.ensures)
     (fault_last c.args.strict d.size (now t) c.in-Err-loaded.why c.in-Err-loaded.ensures.cause
     (λ field same. record {
       front = front_of c.args.strict d.size (now t) f c.in-Ok.ensures.sound is (λ e. (level e).0) (λ e. (level e).1);
@@ -53,7 +30,7 @@ returns-in-Err-loaded-clause-fault g c = λ t shows.
 pub returns-in-Ok-check_stopped-clause-passed : goal.returns-in-Ok-check_stopped-clause-passed
 returns-in-Ok-check_stopped-clause-passed g c = λ t shows.
     let d0 = g.D.BlockDev.state c.args.dev.now in
-    let d1 = g.D.BlockDev.state c.read_front.new.dev in
+    let d1 = g.D.BlockDev.state c.read_settled.new.dev in
     let f = c.in-Ok.front in
     let s = c.in-Ok-loaded.stopped in
     let size : d0.size ≡ d1.size = sym c.in-Ok.ensures.unwritten.size in
@@ -61,7 +38,7 @@ returns-in-Ok-check_stopped-clause-passed g c = λ t shows.
     let is : IsFrontOf d1.size (now t) f = subst (λ (n : ℕ). IsFrontOf n (now t) f) size first in
     let read0 : IsReadFrom c.sectors-size.result (now t) s = c.in-Ok-loaded.ensures.read (now t) (subst (λ (n : ℕ). IsFrontOf n (now t) f) (sym c.sectors-size.ensures) first) in
     let read : IsReadFrom d1.size (now t) s = subst (λ (n : ℕ). IsReadFrom n (now t) s) (c.sectors-size.ensures ∙ size) read0 in
-    let level = settled c.args.strict f.first.clean f.log.ends.tail f.log.ends.head (sym c.is_unsettled.ensures ∙ c.if-is_unsettled.false) in
+    let level = c.in-Ok.ensures.settled in
     subst (λ (n : ℕ). IsPassed c.args.strict n (now t) (record { superblock = s.superblock; tail = f.log.ends.tail; head = f.log.ends.head })) (sym size)
     (passed c.note_laws.ensures c.super_spelling.ensures.again c.args.strict d1.size (now t) f s is read c.in-Ok-loaded.ensures.sound.superblock c.in-Ok-loaded.ensures.ends.0 c.in-Ok-loaded.ensures.ends.1 (λ e. (level e).0) (λ e. (level e).1)
     (c.in-Ok-check_stopped.ensures.finds t (still_shows d0 d1 t c.in-Ok.ensures.unwritten shows) read) (record { superblock = s.superblock; tail = f.log.ends.tail; head = f.log.ends.head }) refl refl refl)
@@ -69,7 +46,7 @@ returns-in-Ok-check_stopped-clause-passed g c = λ t shows.
 pub returns-in-Err-BadMeta-clause-fault : goal.returns-in-Err-BadMeta-clause-fault
 returns-in-Err-BadMeta-clause-fault g c = λ t shows.
     let d0 = g.D.BlockDev.state c.args.dev.now in
-    let d1 = g.D.BlockDev.state c.read_front.new.dev in
+    let d1 = g.D.BlockDev.state c.read_settled.new.dev in
     let f = c.in-Ok.front in
     let s = c.in-Ok-loaded.stopped in
     let size : d0.size ≡ d1.size = sym c.in-Ok.ensures.unwritten.size in
@@ -77,7 +54,7 @@ returns-in-Err-BadMeta-clause-fault g c = λ t shows.
     let is : IsFrontOf d1.size (now t) f = subst (λ (n : ℕ). IsFrontOf n (now t) f) size first in
     let read0 : IsReadFrom c.sectors-size.result (now t) s = c.in-Ok-loaded.ensures.read (now t) (subst (λ (n : ℕ). IsFrontOf n (now t) f) (sym c.sectors-size.ensures) first) in
     let read : IsReadFrom d1.size (now t) s = subst (λ (n : ℕ). IsReadFrom n (now t) s) (c.sectors-size.ensures ∙ size) read0 in
-    let level = settled c.args.strict f.first.clean f.log.ends.tail f.log.ends.head (sym c.is_unsettled.ensures ∙ c.if-is_unsettled.false) in
+    let level = c.in-Ok.ensures.settled in
     subst (HasBadMeta c.args.strict d0.size (now t)) (sym c.from.ensures) (subst (λ (n : ℕ). HasBadMeta c.args.strict n (now t) c.in-Err-BadMeta.sector) (sym size)
     (bad_meta c.note_laws.ensures c.super_spelling.ensures.again c.args.strict d1.size (now t) f s is read c.in-Ok-loaded.ensures.sound.superblock c.in-Ok-loaded.ensures.ends.0 c.in-Ok-loaded.ensures.ends.1 (λ e. (level e).0) (λ e. (level e).1) c.in-Err-BadMeta.sector
     (subst (IsStopped c.args.strict (volume_of s.superblock) (laid read.records (now t))) c.in-Err-BadMeta.field-0-is (c.in-Err-BadMeta.ensures.finds t (still_shows d0 d1 t c.in-Ok.ensures.unwritten shows) read))))

@@ -1,9 +1,7 @@
-use Rattle.std.proofs.Common.{◌≡◌, ◌*◌, ℕ, List, sym, subst, ap, ◌∙◌, inr}
+use Rattle.std.proofs.Common.{◌≡◌, ◌*◌, ℕ, sym, subst, ap, ◌∙◌}
 use Rattle.std.specs.Prelude.{Ok, Err}
 use Rattle.vx_dev.specs.Tape.{now}
-use Rattle.vx_layout.specs.LogForms.{AfterImage, overlay_all}
-use Rattle.vx_replay.specs.BadImages.{checked_super, checked_again, bad, WhyBadLog}
-use Rattle.vx_replay.specs.LogReads.{AreRecords}
+use Rattle.vx_replay.specs.BadImages.{checked_super, WhyBadLog}
 use Rattle.vx_replay.specs.declared.refusal.ReplayRefusal.TheVariants.{BadLog}
 use Rattle.vx_replay.proofs.BadReads.{first_read}
 use Rattle.vx_replay.proofs.LogReading.{still_shows}

@@ -1,4 +1,4 @@
-use Rattle.std.proofs.Common.{◌≡◌, ◌≤◌, ℕ, ap, sym, subst}
+use Rattle.std.proofs.Common.{◌≤◌, ℕ, sym, subst}
 use Rattle.vx_layout.specs.declared.superblock.Super.{Super}
 use Rattle.vx_stage.specs.Kernels.{device_size}
 use Rattle.vx_stage.proofs.laws.fit_laws.Goals as goal
