@@ -1,0 +1,4 @@
+pub mod Names
+pub mod Plainness
+pub mod Listing
+pub mod Refusing
