@@ -8,7 +8,6 @@ use Rattle.std.proofs.lemmas.List.Elements.{All-nil, All-cons, All-weaker}
 use Rattle.vx_base.specs.declared.call.Call.{Call}
 use Rattle.vx_base.specs.declared.event.Event.{Event}
 use Rattle.vx_base.specs.declared.event.Event.TheVariants as event
-use Rattle.vx_base.specs.declared.mode.Logging.{Logging}
 use Rattle.vx_base.specs.Faults.{Rose, HasCause}
 use Rattle.vx_dev.specs.Tape as dev
 use Rattle.vx_dev.specs.Moments.{Told}
@@ -29,16 +28,16 @@ use Rattle.vx_stage.specs.Leads.{state_at}
 use Rattle.vx_stage.specs.declared.kernel.Job.{Job}
 use Rattle.vx_stage.specs.declared.kernel.Job.TheVariants.{Left}
 use Rattle.vx_stage.specs.declared.kernel.Kernel.{Kernel}
-use Rattle.vx_run.specs.Ends.{Taking, Takes, Setting, first_of, beginning, free_locks, begun_view, AreInOrder, CameBetween, is_unmounted_phase, is_unmounted}
+use Rattle.vx_grammar.specs.declared.script.Script.{Script}
+use Rattle.vx_run.specs.Ends.{Taking, Takes, AreInOrder, CameBetween, IsPlayed, is_unmounted_phase, is_unmounted}
 
 pub takes_of : {E : Type 0} (t : Taking) (text : List ℕ) (r : Result (Unit {0}) E) → OnOk r (Appends t.before t.now text) → OnErr r (AppendsPrefix t.before t.now text) → HasCause t.faults_before t.faults r → Takes t text (is_ok r)
 takes_of t text (Ok x) ok err cause = (ok, cause.fine)
 takes_of t text (Err e) ok err cause = (err, cause.failed)
 
 -- where the turns begin
-pub begun_is : (s : Setting) (mode : Logging) (lines : List (List Call)) (v : CoreView) → v.lines ≡ lines → v.history ≡ [] → v.logging ≡ mode → v.count ≡ first_of s → v.write_faults ≡ s.device.write_faults → v.disabled ≡ None → v.locks ≡ free_locks
-    → v ≡ begun_view s mode lines
-begun_is s mode lines v same empty logging count faults off locks = λ i. record { lines = same i; history = empty i; logging = logging i; count = count i; write_faults = faults i; disabled = off i; locks = locks i }
+pub begun_is : (v w : CoreView) → v.lines ≡ w.lines → v.history ≡ w.history → v.logging ≡ w.logging → v.count ≡ w.count → v.write_faults ≡ w.write_faults → v.disabled ≡ w.disabled → v.locks ≡ w.locks → v ≡ w
+begun_is v w same empty logging count faults off locks = λ i. record { lines = same i; history = empty i; logging = logging i; count = count i; write_faults = faults i; disabled = off i; locks = locks i }
 
 -- no session holds a lock
 pub none_held : (n : ℕ) (locks : List (Option ℕ)) → locks ≡ replicate n None → AreFree locks
@@ -83,8 +82,8 @@ later_than w (e ∷ es) legal =
     let same : (after w e).at ≡ at_of e = after_at w e in
     omega (arith, rest, here, same)
 
-pub came_between : (s : Setting) (h : List Event) (count : ℕ) → Legal (beginning s) h → All (λ e. at_of e ≤ count) h → All (CameBetween (first_of s) count) h
-came_between s h count legal upper = λ i e lt. (came_from (beginning s) h legal i e lt, upper i e lt)
+pub came_between : (o : World) (h : List Event) (count : ℕ) → Legal o h → All (λ e. at_of e ≤ count) h → All (CameBetween o.at count) h
+came_between o h count legal upper = λ i e lt. (came_from o h legal i e lt, upper i e lt)
 
 -- ---- how it ended
 
@@ -158,3 +157,9 @@ told_left laws o k d job committed live = for d.told live
     for : (t : Option dev.Tape) → IfSome t (IsLive o k) → IfSome t (IsLeft o.state.layout.device_sectors (after_all o k.history.items).state.tree)
     for None is = tt
     for (Some t) is = left_now laws o k t job committed is
+
+-- ---- where it began
+
+pub played_from : (o p : World) (u v : CoreView) (script : Script) (m n : ℕ) (d : dev.State) (disabled : Bool) (h : List Event) → o ≡ p → u ≡ v → m ≡ n → IsPlayed o u script m d disabled h → IsPlayed p v script n d disabled h
+played_from o p u v script m n d disabled h world view size is =
+    subst (λ k. IsPlayed p v script k d disabled h) size (subst (λ a. IsPlayed p a script m d disabled h) view (subst (λ w. IsPlayed w u script m d disabled h) world is))

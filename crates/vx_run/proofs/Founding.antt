@@ -1,29 +1,21 @@
--- A mount of a new file system, as a core takes it.
+-- A mount whose history begins, as a core takes it.
 use Rattle.std.proofs.Common.{◌≡◌, ℕ, ◌+◌, ◌<◌, ◌≤◌, ◌^◌, List, [], length, Option, Some, None, refl, sym, ◌∙◌, ap, subst, arith}
-use Rattle.std.specs.Prelude.{vec_capacity, IsNone}
+use Rattle.std.specs.Prelude.{vec_capacity}
 use Rattle.vx_base.specs.declared.event.Event.{Event}
-use Rattle.vx_base.specs.declared.mode.Logging.{Logging}
-use Rattle.vx_dev.specs.Moments.{Told}
 use Rattle.vx_dev.specs.Tape as dev
-use Rattle.vx_log.specs.Logs.{LogView, fresh_log}
-use Rattle.vx_model.specs.Legal.{World, in_use, unmounted, opening, after_all}
-use Rattle.vx_model.specs.State.{State, directory_blocks, fresh_of}
-use Rattle.vx_stage.specs.Kernels.{HasRun, IsLive, IsFit, present}
+use Rattle.vx_model.specs.Legal.{World, in_use, unmounted, after_all}
+use Rattle.vx_stage.specs.Kernels.{present}
 use Rattle.vx_stage.specs.declared.kernel.Kernel.{Kernel}
 use Rattle.vx_txn.specs.Metas.{IsStateOf}
 use Rattle.vx_txn.specs.declared.meta.Meta.{Meta}
 use Rattle.vx_calls.specs.declared.mount.Mount.{Mount}
 use Rattle.vx_calls.specs.Mounts.{IsAt}
 use Rattle.vx_calls.specs.Potentials.{debt, promised}
-use Rattle.vx_run.specs.Ends.{new_super}
 use Rattle.vx_run.specs.Mounted.{IsLeftWhole, Keeps}
 
-pub none_closing : (log : LogView) → log ≡ fresh_log 1024 → IsNone log.closing
-none_closing log is = subst (λ (l : LogView). IsNone l.closing) (sym is) refl
-
 -- what the memory stands for before the first call
-pub meta_new : (count size : ℕ) (k : Kernel) (m : Meta) → k.history.items ≡ [] → IsStateOf m (fresh_of new_super directory_blocks size) → IsStateOf m (present (opening count (fresh_of new_super directory_blocks size)) k)
-meta_new count size k m empty is = subst (λ (h : List Event). IsStateOf m (after_all (opening count (fresh_of new_super directory_blocks size)) h).state) (sym empty) is
+pub meta_new : (o : World) (k : Kernel) (m : Meta) → k.history.items ≡ [] → IsStateOf m o.state → IsStateOf m (present o k)
+meta_new o k m empty is = subst (λ (h : List Event). IsStateOf m (after_all o h).state) (sym empty) is
 
 module _ (o : World) (room : ℕ) (d : dev.State) (k : Kernel) (m : Mount) (same : m.kernel ≡ k) (empty : k.history.items ≡ []) (owes : debt m ≡ 0) where
   pub none_promised : promised m ≡ 0

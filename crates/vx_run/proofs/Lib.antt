@@ -3,3 +3,4 @@ pub mod Scripts
 pub mod Mounting
 pub mod Finishing
 pub mod Founding
+pub mod Imaging

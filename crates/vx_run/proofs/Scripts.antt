@@ -9,7 +9,6 @@ use Rattle.std.proofs.lemmas.List.Sums.{sum_by-append}
 use Rattle.std.proofs.lemmas.Option.{slice_get_past, slice_get_within, get_or_from_slice_get, unwrap_or-slice_get}
 use Rattle.vx_base.specs.declared.call.Call.{Call}
 use Rattle.vx_base.specs.declared.call.Call.TheVariants as call
-use Rattle.vx_base.specs.declared.mode.Logging.{Logging}
 use Rattle.vx_base.specs.declared.mode.Logging.TheVariants as logging
 use Rattle.vx_base.specs.Lines.{lines_of, line_after}
 use Rattle.vx_core.specs.Facts as core
@@ -31,19 +30,22 @@ use Rattle.vx_script.specs.Start.{start_of, start_of_options}
 use Rattle.vx_script.specs.declared.start.StartRefusal.{StartRefusal}
 use Rattle.vx_script.specs.declared.start.StartRefusal.TheVariants as start
 use Rattle.vx_txn.specs.Calls.{HasMode}
-use Rattle.vx_run.specs.Words.{logging_of, logging_asked}
+use Rattle.vx_replay.specs.LogReads.{IsRead}
+use Rattle.vx_run.specs.Words.{asked_of, logging_of, verb_of, with_verb}
+use Rattle.vx_run.specs.declared.words.Asked.{Asked}
+use Rattle.vx_run.specs.declared.words.Verb.{Verb}
 use Rattle.vx_run.specs.Mounted.{IsBuilt}
 use Rattle.vx_run.specs.Reads.{HasRead}
 use Rattle.vx_run.specs.Ends.{Setting, Asks, HasBadLine, IsUnasked, HasEnded, refused}
 
-abbrev failed : StartRefusal → Result Logging StartRefusal
+abbrev failed : StartRefusal → Result Asked StartRefusal
 failed why = Err why
 
-bad_words : (s : Setting) (faults : ℕ) (why : StartRefusal) → failed start.BadWords ≡ Err why → logging_asked s.words ≡ Err why → IsUnasked s faults why
+bad_words : (s : Setting) (faults : ℕ) (why : StartRefusal) → failed start.BadWords ≡ Err why → asked_of s.words ≡ Err why → IsUnasked s faults why
 bad_words s faults start.BadWords same is = is
 bad_words s faults why same is = absurd (cc)
 
-bad_option : (s : Setting) (faults : ℕ) (e : OptionRefusal) (why : StartRefusal) → failed (start_of_options e) ≡ Err why → logging_asked s.words ≡ Err why → IsUnasked s faults why
+bad_option : (s : Setting) (faults : ℕ) (e : OptionRefusal) (why : StartRefusal) → failed (start_of_options e) ≡ Err why → asked_of s.words ≡ Err why → IsUnasked s faults why
 bad_option s faults (options.BadOption at) (start.BadOption n) same is = is
 bad_option s faults (options.Twice name) (start.Twice n) same is = is
 bad_option s faults e why same is = absurd (cc)
@@ -80,14 +82,25 @@ bad_order_read : (left : Option (List ℕ)) (line : ℕ) (bytes : List ℕ) → 
 bad_order_read None line bytes h is = tt
 bad_order_read (Some all) line bytes h is = record { reading = is.reading; read = same_reading all bytes h ∙ is.read; lowest = is.lowest }
 
-pub asks_of : (s : Setting) (mode : Logging) (bytes : List ℕ) (script : Script) → logging_asked s.words ≡ Ok mode → HasRead s.script bytes → IsScriptIn bytes script → Asks s mode script
-asks_of s mode bytes script words h is = record { words = words; read = script_read s.script bytes script h is; form = is.says.form }
+pub asks_of : (s : Setting) (asked : Asked) (bytes : List ℕ) (script : Script) → asked_of s.words ≡ Ok asked → HasRead s.script bytes → IsScriptIn bytes script → Asks s asked script
+asks_of s asked bytes script words h is = record { words = words; read = script_read s.script bytes script h is; form = is.says.form }
 
-pub unasked_of : (s : Setting) (mode : Logging) (faults : ℕ) (bytes : List ℕ) (why : ScriptRefusal) → logging_asked s.words ≡ Ok mode → HasRead s.script bytes → IsRefusedFor bytes why → IsUnasked s faults (start_of why)
-unasked_of s mode faults bytes no.TooLong words h is = ((mode, words), refusal_read s.script bytes no.TooLong h is)
-unasked_of s mode faults bytes (no.BadLine line why) words h is = ((mode, words), bad_line_read s.script line bytes h (why, is))
-unasked_of s mode faults bytes (no.BadOrder line) words h is = ((mode, words), bad_order_read s.script line bytes h is)
-unasked_of s mode faults bytes no.NoMemory words h is = (mode, words)
+pub unasked_of : (s : Setting) (asked : Asked) (faults : ℕ) (bytes : List ℕ) (why : ScriptRefusal) → asked_of s.words ≡ Ok asked → HasRead s.script bytes → IsRefusedFor bytes why → IsUnasked s faults (start_of why)
+unasked_of s asked faults bytes no.TooLong words h is = ((asked, words), refusal_read s.script bytes no.TooLong h is)
+unasked_of s asked faults bytes (no.BadLine line why) words h is = ((asked, words), bad_line_read s.script line bytes h (why, is))
+unasked_of s asked faults bytes (no.BadOrder line) words h is = ((asked, words), bad_order_read s.script line bytes h is)
+unasked_of s asked faults bytes no.NoMemory words h is = (asked, words)
+
+-- a device that nothing was done on
+pub only_read : (old d : dev.State) → d ≡ old → IsRead old d
+only_read old d same = record {
+  told = ap (λ (x : dev.State). x.told) same;
+  count = ap (λ (x : dev.State). x.count) same;
+  doubt = ap (λ (x : dev.State). x.doubt) same;
+  size = ap (λ (x : dev.State). x.size) same;
+  writes = ap (λ (x : dev.State). x.write_faults) same;
+  reads = (let faults : d.read_faults ≡ old.read_faults = ap (λ (x : dev.State). x.read_faults) same in omega (arith, faults));
+}
 
 pub ended_unasked : (s : Setting) (d : dev.State) (faults : ℕ) (why : StartRefusal) → IsUnasked s faults why → d ≡ s.device → HasEnded s d faults (refused why)
 ended_unasked s d faults start.BadWords h same = (h, same)
@@ -97,26 +110,33 @@ ended_unasked s d faults start.TooLong h same = (h, same)
 ended_unasked s d faults (start.BadLine line) h same = (h, same)
 ended_unasked s d faults (start.BadOrder line) h same = (h, same)
 ended_unasked s d faults start.ScriptFault h same = (h, same)
-ended_unasked s d faults start.NoMemory h same = (h, same)
+ended_unasked s d faults start.NoMemory h same = (h, only_read s.device d same)
 ended_unasked s d faults (start.DeviceTooSmall have want) h same = absurd h
+ended_unasked s d faults (start.BadSuper field) h same = absurd h
+ended_unasked s d faults (start.BadLog sector) h same = absurd h
+ended_unasked s d faults (start.NotClean tail head) h same = absurd h
+ended_unasked s d faults (start.BadMeta sector) h same = absurd h
+ended_unasked s d faults (start.HasBytes ino) h same = absurd h
 ended_unasked s d faults start.WriteFault h same = absurd h
+ended_unasked s d faults start.ReadFault h same = absurd h
 
--- ---- words that ask for no mode
+-- ---- words that ask for nothing
 
-pub unasked_words : (s : Setting) (faults : ℕ) (words : List (List ℕ)) (why : StartRefusal) → s.words ≡ words → logging_asked words ≡ Err why → IsUnasked s faults why
-unfolding logging_asked
-unasked_words s faults (verb ∷ image ∷ []) why same is = by_verb (bytes_eq verb (codes "fresh")) why is (ap logging_asked same ∙ is)
+pub unasked_words : (s : Setting) (faults : ℕ) (words : List (List ℕ)) (why : StartRefusal) → s.words ≡ words → asked_of words ≡ Err why → IsUnasked s faults why
+unfolding asked_of
+unasked_words s faults (verb ∷ image ∷ []) why same is = by_verb (verb_of verb) why is (ap asked_of same ∙ is)
   where
-    by_verb : (b : Bool) (w : StartRefusal) → (if b then Ok logging.DelayLog else Err start.BadWords) ≡ Err w → logging_asked s.words ≡ Err w → IsUnasked s faults w
-    by_verb true w wrong asked = absurd (cc)
-    by_verb false w wrong asked = bad_words s faults w wrong asked
-unasked_words s faults (verb ∷ image ∷ option ∷ list ∷ []) why same is = by_verb (bytes_eq verb (codes "fresh") && bytes_eq option (codes "-o")) (options_of list) why is (ap logging_asked same ∙ is)
+    by_verb : (v : Option Verb) (w : StartRefusal) → with_verb v (Ok logging.DelayLog) ≡ Err w → asked_of s.words ≡ Err w → IsUnasked s faults w
+    by_verb (Some v) w wrong asked = absurd (cc)
+    by_verb None w wrong asked = bad_words s faults w wrong asked
+unasked_words s faults (verb ∷ image ∷ option ∷ list ∷ []) why same is = by_verb (verb_of verb) (bytes_eq option (codes "-o")) (options_of list) why is (ap asked_of same ∙ is)
   where
-    by_verb : (b : Bool) (o : Result Options OptionRefusal) (w : StartRefusal) → (if b then logging_of o else Err start.BadWords) ≡ Err w → logging_asked s.words ≡ Err w → IsUnasked s faults w
-    by_verb true (Ok options) w wrong asked = absurd (cc)
-    by_verb true (Err e) w wrong asked = bad_option s faults e w wrong asked
-    by_verb false o w wrong asked = bad_words s faults w wrong asked
-unasked_words s faults words why same is = bad_words s faults why is (ap logging_asked same ∙ is)
+    by_verb : (v : Option Verb) (b : Bool) (o : Result Options OptionRefusal) (w : StartRefusal) → with_verb v (if b then logging_of o else Err start.BadWords) ≡ Err w → asked_of s.words ≡ Err w → IsUnasked s faults w
+    by_verb (Some v) true (Ok options) w wrong asked = absurd (cc)
+    by_verb (Some v) true (Err e) w wrong asked = bad_option s faults e w wrong asked
+    by_verb (Some v) false o w wrong asked = bad_words s faults w wrong asked
+    by_verb None b o w wrong asked = bad_words s faults w wrong asked
+unasked_words s faults words why same is = bad_words s faults why is (ap asked_of same ∙ is)
 
 -- ---- the calls of a script
 

@@ -1,5 +1,5 @@
 //! The memory of a run.
-ghost use Rattle.std.specs.Prelude.{IfOk};
+ghost use Rattle.std.specs.Prelude.{◌≤◌, IfOk};
 ghost use Rattle.vx_run.specs.Memories.{IsMemory};
 
 use std::alloc::{AllocError, Global};
@@ -8,19 +8,21 @@ use vx_home::Homes;
 use vx_locks::LockTable;
 use vx_log::{Batch, Log};
 use vx_stage::Room;
-use vx_txn::{Meta, Touched};
+use vx_txn::Touched;
 
-/// The blocks of the log of every new file system.
-pub const LOG_BLOCKS: u32 = 512;
-
-/// The inode numbers of every new file system, which has one unit.
+/// The inode numbers of a unit.
 const INODES: u32 = 128;
 
-/// All memory that a run takes before its first write. Calls take more for the metadata that they add.
+/// The memory that a run takes before its first write, beside the metadata. Calls take more for what they add.
 #[derive(Drop)]
 pub struct Memory {
     pub kernel: Room,
-    pub meta: Meta,
+    pub turns: TurnMemory,
+}
+
+/// What the turns need of it.
+#[derive(Drop)]
+pub struct TurnMemory {
     pub touched: Touched,
     pub transaction: Batch,
     pub sessions: Vec<Session>,
@@ -28,23 +30,31 @@ pub struct Memory {
 }
 
 impl Memory {
-    /// For so many sessions, and a history of so many events.
-    pub fn new(alloc: Global, sessions: usize, events: usize) -> Result<Memory, AllocError>
-        ensures { IfOk result (IsMemory sessions events) }
+    /// With this log, for so many units, so many sessions, and a history of so many events.
+    pub fn new(
+        alloc: Global,
+        log: Log,
+        units: u32,
+        sessions: usize,
+        events: usize,
+    ) -> Result<Memory, AllocError>
+        requires { units ≤ 64 }
+        ensures { IfOk result (IsMemory log units sessions events) }
     {
         Ok(Memory {
             kernel: Room {
-                log: Log::fresh(alloc, LOG_BLOCKS)?,
+                log,
                 homes: Homes::new(alloc)?,
                 gathered: Batch::new(alloc)?,
                 ready: Batch::new(alloc)?,
                 history: Vec::with_capacity(alloc, events)?,
             },
-            meta: Meta::fresh(alloc, LOG_BLOCKS)?,
-            touched: Touched::new(alloc)?,
-            transaction: Batch::new(alloc)?,
-            sessions: new_sessions(alloc, sessions)?,
-            locks: LockTable::new(alloc, INODES)?,
+            turns: TurnMemory {
+                touched: Touched::new(alloc)?,
+                transaction: Batch::new(alloc)?,
+                sessions: new_sessions(alloc, sessions)?,
+                locks: LockTable::new(alloc, INODES * units)?,
+            },
         })
     }
 }

@@ -1,4 +1,6 @@
 //! Whole runs over devices in memory.
+ghost use Rattle.std.specs.Prelude.{◌≡◌, []};
+
 use crate::{OpenGate, Ran, run};
 use std::alloc::{AllocError, Global};
 use std::sync::Wait;
@@ -6,6 +8,9 @@ use std::test::Fail;
 use std::thread::Threads;
 use vx_base::{Bytes, Call, Event, History, MemSink, MemSource, NumList, Reply};
 use vx_dev::{BlockDev, FuseDev, Image, MemDisk, Operation, pick_image};
+use vx_layout::Super;
+use vx_log::head_sector;
+use vx_mkfs::make;
 
 const SECTORS: u64 = 9_220;
 
@@ -31,6 +36,11 @@ struct Seen<D: Drop> {
     history: History,
     out: MemSink,
 }
+
+/// The same on what the image holds.
+const MOUNT_LOG: &[&str] = &["mount", "disk.img", "-o", "log"];
+
+const MOUNT: &[&str] = &["mount", "disk.img"];
 
 /// Each call that changes names is committed before it returns.
 const LOG: &[&str] = &["fresh", "disk.img", "-o", "log"];
@@ -67,7 +77,9 @@ fn run_on<R: Threads + Wait + Sync, D: BlockDev + Send + Drop>(
     fail_reads: &[u64],
     room: u32,
     dev: D,
-) -> Result<Seen<D>, Fail> {
+) -> Result<Seen<D>, Fail>
+    requires certain { (D.state dev).doubt ≡ [] }
+{
     let fail_reads = NumList::from_slice(alloc, fail_reads)?;
     let mut source = MemSource::new(Bytes::from_slice(alloc, script)?, fail_reads);
     let mut out = MemSink::new(alloc, room, NumList::new(alloc))?;
@@ -649,5 +661,105 @@ fn each_operation_may_fail(rt: HostRuntime) -> Result<(), Fail> {
             }
         }
     }
+    Ok(())
+}
+
+// ---- mounts
+
+/// A disk that begins with what another one leaves at this moment, and fails these reads.
+fn left(alloc: Global, dev: &MemDisk, moment: u64, fail_reads: &[u64]) -> Result<MemDisk, Fail> {
+    let image = pick_image(alloc, dev, moment.min(dev.ops()), 0)?;
+    let fail_reads = NumList::from_slice(alloc, fail_reads)?;
+    Ok(MemDisk::new(alloc, image, ROOM, NumList::new(alloc), fail_reads)?)
+}
+
+const MORE: &[u8] = b"sessions 1\n0 list /\n0 mkdir /d 755\n0 rename /a /d/b\n0 create /c 600\n";
+
+const MORE_DONE: &[u8] =
+    b"0 1 ok 1 a\n0 2 ok 4\n0 3 ok\n0 4 ok 5\ndone calls=4 moves=0 from=0 to=0\n";
+
+const LOOK: &[u8] = b"sessions 1\n0 list /\n0 list /d\n0 stat /d/b\n";
+
+const LOOK_DONE: &[u8] =
+    b"0 1 ok 2 c d\n0 2 ok 1 b\n0 3 ok file 3 0644 1 0\ndone calls=3 moves=0 from=0 to=0\n";
+
+#[test]
+fn what_was_left_is_mounted_again(rt: HostRuntime) -> Result<(), Fail> {
+    let alloc = rt.alloc();
+    let first = run_script(&rt, alloc, LOG, EXAMPLE, SECTORS, &[])?;
+    let again = left(alloc, &first.dev, 87, &[])?;
+    let second = run_on(&rt, alloc, MOUNT, MORE, &[], 4096, again)?;
+    assert_eq!(rt; second.status, 0);
+    assert_eq!(rt; second.out.as_slice(), MORE_DONE);
+    let again = left(alloc, &second.dev, second.dev.ops(), &[])?;
+    let third = run_on(&rt, alloc, MOUNT_LOG, LOOK, &[], 4096, again)?;
+    assert_eq!(rt; (third.status, third.dev.ops()), (0, 5));
+    assert_eq!(rt; third.out.as_slice(), LOOK_DONE);
+    Ok(())
+}
+
+#[test]
+fn images_that_are_not_mounted(rt: HostRuntime) -> Result<(), Fail> {
+    let alloc = rt.alloc();
+    let run = run_script(&rt, alloc, LOG, EXAMPLE, SECTORS, &[])?;
+    let rows = [
+        (78, NEVER, 2, b"refused 2 NotClean 0 5\n".as_slice()),
+        (70, NEVER, 2, b"refused 2 NotClean 0 0\n".as_slice()),
+        (0, NEVER, 2, b"refused 2 BadSuper 1\n".as_slice()),
+        (87, 1, 8, b"refused 8 ReadFault\n".as_slice()),
+    ];
+    for (moment, failing_read, status, out) in rows {
+        let dev = left(alloc, &run.dev, moment, &[failing_read])?;
+        let seen = run_on(&rt, alloc, MOUNT, NO_LINES, &[], 4096, dev)?;
+        assert_eq!(rt; (seen.status, seen.dev.ops()), (status, 0));
+        assert_eq!(rt; seen.out.as_slice(), out);
+    }
+    Ok(())
+}
+
+/// The log's positions begin anew before they are used up.
+#[test]
+fn the_last_position_of_a_log(rt: HostRuntime) -> Result<(), Fail> {
+    let alloc = rt.alloc();
+    let run = run_script(&rt, alloc, LOG, NO_LINES, SECTORS, &[])?;
+    let mut dev = left(alloc, &run.dev, 72, &[])?;
+    let last = 1u64 << 62;
+    assert!(rt; dev.sectors() == SECTORS);
+    dev.write(2, &head_sector(7, last, last))?;
+    let dev = left(alloc, &dev, 1, &[])?;
+    let seen = run_on(&rt, alloc, MOUNT_LOG, ONE_CREATE, &[], 4096, dev)?;
+    assert_eq!(rt; seen.status, 0);
+    assert!(rt; seen.out.as_slice().starts_with(b"0 1 ok 3\n".as_slice()));
+    let head = sector(seen.dev.image(), 2);
+    assert_eq!(rt; number(&head, 16, 8), number(&head, 24, 8));
+    assert!(rt; number(&head, 16, 8) < last);
+    Ok(())
+}
+
+#[test]
+fn a_file_system_of_two_units_is_mounted(rt: HostRuntime) -> Result<(), Fail> {
+    let alloc = rt.alloc();
+    let mut dev = disk(alloc, 16_900, &[])?;
+    let sizes = Super {
+        log_blocks: 256,
+        units: 2,
+        clean: true,
+    };
+    assert!(rt; dev.sectors() == 16_900);
+    make(&mut dev, &sizes)?;
+    let dev = left(alloc, &dev, dev.ops(), &[])?;
+    let mut script = Vec::new(alloc);
+    script.extend_from_slice(b"sessions 1\n")?;
+    for number in 0..130u8 {
+        numbered_line(&mut script, number)?;
+    }
+    let seen = run_on(&rt, alloc, MOUNT, &script, &[], 65_536, dev)?;
+    assert_eq!(rt; seen.status, 0);
+    let dev = left(alloc, &seen.dev, seen.dev.ops(), &[])?;
+    let seen = run_on(&rt, alloc, MOUNT, b"sessions 1\n0 stat /\n", &[], 4096, dev)?;
+    assert_eq!(rt;
+        seen.out.as_slice(),
+        b"0 1 ok dir 2 0755 130\ndone calls=1 moves=0 from=0 to=0\n".as_slice()
+    );
     Ok(())
 }

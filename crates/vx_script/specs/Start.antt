@@ -16,11 +16,17 @@ status_of start.BadWords = 1
 status_of (start.BadOption at) = 1
 status_of (start.Twice name) = 1
 status_of (start.DeviceTooSmall have want) = 2
+status_of (start.BadSuper field) = 2
+status_of (start.BadLog sector) = 2
+status_of (start.NotClean tail head) = 2
+status_of (start.BadMeta sector) = 2
+status_of (start.HasBytes ino) = 2
 status_of start.TooLong = 3
 status_of (start.BadLine line) = 3
 status_of (start.BadOrder line) = 3
 status_of start.WriteFault = 4
 status_of start.ScriptFault = 7
+status_of start.ReadFault = 8
 status_of start.NoMemory = 6
 
 abbrev pub name_of_start : StartRefusal → List ℕ
@@ -28,11 +34,17 @@ name_of_start start.BadWords = codes "BadWords"
 name_of_start (start.BadOption at) = codes "BadOption"
 name_of_start (start.Twice name) = codes "Twice"
 name_of_start (start.DeviceTooSmall have want) = codes "DeviceTooSmall"
+name_of_start (start.BadSuper field) = codes "BadSuper"
+name_of_start (start.BadLog sector) = codes "BadLog"
+name_of_start (start.NotClean tail head) = codes "NotClean"
+name_of_start (start.BadMeta sector) = codes "BadMeta"
+name_of_start (start.HasBytes ino) = codes "HasBytes"
 name_of_start start.TooLong = codes "TooLong"
 name_of_start (start.BadLine line) = codes "BadLine"
 name_of_start (start.BadOrder line) = codes "BadOrder"
 name_of_start start.WriteFault = codes "WriteFault"
 name_of_start start.ScriptFault = codes "ScriptFault"
+name_of_start start.ReadFault = codes "ReadFault"
 name_of_start start.NoMemory = codes "NoMemory"
 
 -- the word of what was chosen twice
@@ -46,6 +58,11 @@ abbrev pub fields_of_start : StartRefusal → List (List ℕ)
 fields_of_start (start.BadOption at) = decimal at ∷ []
 fields_of_start (start.Twice name) = word_of_option name ∷ []
 fields_of_start (start.DeviceTooSmall have want) = decimal have ∷ decimal want ∷ []
+fields_of_start (start.BadSuper field) = decimal field ∷ []
+fields_of_start (start.BadLog sector) = decimal sector ∷ []
+fields_of_start (start.NotClean tail head) = decimal tail ∷ decimal head ∷ []
+fields_of_start (start.BadMeta sector) = decimal sector ∷ []
+fields_of_start (start.HasBytes ino) = decimal ino ∷ []
 fields_of_start (start.BadLine line) = decimal line ∷ []
 fields_of_start (start.BadOrder line) = decimal line ∷ []
 fields_of_start _ = []

@@ -23,6 +23,16 @@ pub enum StartRefusal {
     Twice(OptionName),
     /// In sectors.
     DeviceTooSmall { have: u64, want: u64 },
+    /// The first bad field of the superblock of an image that is to be mounted (docs/LAYOUT.md).
+    BadSuper { field: u32 },
+    /// The sector of its log that is wrong: the head sector, or that of a descriptor.
+    BadLog { sector: u64 },
+    /// It was not left clean; its log begins and ends here.
+    NotClean { tail: u64, head: u64 },
+    /// The sector of its metadata that is wrong (docs/CHECK.md).
+    BadMeta { sector: u64 },
+    /// The file of this inode number has bytes, which no call can reach yet.
+    HasBytes { ino: u32 },
     /// The script has too many bytes.
     TooLong,
     /// A bad line of the script, counted from 1.
@@ -33,6 +43,8 @@ pub enum StartRefusal {
     WriteFault,
     /// The script could not be read.
     ScriptFault,
+    /// A read of the device failed.
+    ReadFault,
     NoMemory,
 }
 
@@ -44,12 +56,18 @@ impl StartRefusal {
         match self {
             StartRefusal::BadWords | StartRefusal::BadOption { at: _ } | StartRefusal::Twice(_) =>
                 1,
-            StartRefusal::DeviceTooSmall { have: _, want: _ } => 2,
+            StartRefusal::DeviceTooSmall { have: _, want: _ }
+            | StartRefusal::BadSuper { field: _ }
+            | StartRefusal::BadLog { sector: _ }
+            | StartRefusal::NotClean { tail: _, head: _ }
+            | StartRefusal::BadMeta { sector: _ }
+            | StartRefusal::HasBytes { ino: _ } => 2,
             StartRefusal::TooLong
             | StartRefusal::BadLine { line: _ }
             | StartRefusal::BadOrder { line: _ } => 3,
             StartRefusal::WriteFault => 4,
             StartRefusal::ScriptFault => 7,
+            StartRefusal::ReadFault => 8,
             StartRefusal::NoMemory => 6,
         }
     }
@@ -141,14 +159,18 @@ fn put_start_fields<K: Sink>(
         (spaced_list (fields_of_start why.now)) }
 {
     match why {
-        StartRefusal::DeviceTooSmall { have, want } => put_words(
-            out,
-            buffer,
-            &[Word::Number(*have), Word::Number(*want)],
-        ),
+        StartRefusal::DeviceTooSmall { have: a, want: b }
+        | StartRefusal::NotClean { tail: a, head: b } => {
+            put_words(out, buffer, &[Word::Number(*a), Word::Number(*b)])
+        }
+        StartRefusal::BadLog { sector: n } | StartRefusal::BadMeta { sector: n } => {
+            put_words(out, buffer, &[Word::Number(*n)])
+        }
         StartRefusal::BadLine { line: n }
         | StartRefusal::BadOrder { line: n }
-        | StartRefusal::BadOption { at: n } => {
+        | StartRefusal::BadOption { at: n }
+        | StartRefusal::BadSuper { field: n }
+        | StartRefusal::HasBytes { ino: n } => {
             put_words(out, buffer, &[Word::Number(*n as u64)])
         }
         StartRefusal::Twice(name) => put_words(out, buffer, &[Word::Text(option_word(*name))]),
@@ -164,11 +186,17 @@ fn name_of_start_refusal(why: &StartRefusal) -> &'static [u8]
         StartRefusal::BadOption { at: _ } => b"BadOption",
         StartRefusal::Twice(_) => b"Twice",
         StartRefusal::DeviceTooSmall { have: _, want: _ } => b"DeviceTooSmall",
+        StartRefusal::BadSuper { field: _ } => b"BadSuper",
+        StartRefusal::BadLog { sector: _ } => b"BadLog",
+        StartRefusal::NotClean { tail: _, head: _ } => b"NotClean",
+        StartRefusal::BadMeta { sector: _ } => b"BadMeta",
+        StartRefusal::HasBytes { ino: _ } => b"HasBytes",
         StartRefusal::TooLong => b"TooLong",
         StartRefusal::BadLine { line: _ } => b"BadLine",
         StartRefusal::BadOrder { line: _ } => b"BadOrder",
         StartRefusal::WriteFault => b"WriteFault",
         StartRefusal::ScriptFault => b"ScriptFault",
+        StartRefusal::ReadFault => b"ReadFault",
         StartRefusal::NoMemory => b"NoMemory",
     }
 }

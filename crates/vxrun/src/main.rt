@@ -1,4 +1,5 @@
-//! `vxrun`: makes a new file system on an image file, runs a script of one or more sessions on it, and prints the answers.
+//! `vxrun`: makes a file system on an image file or mounts the one that is there, runs a script of one or more sessions on it, and prints
+//! the answers.
 #![tactic(auto)]
 
 use std::fs::File;
@@ -21,8 +22,9 @@ const NO_MEMORY: u8 = 6;
 
 const CANNOT_OPEN: u8 = 9;
 
-const USAGE: &str = "usage: vxrun fresh IMAGE [-o log|delaylog] < SCRIPT
-Makes a file system in the file IMAGE, answers the lines of SCRIPT, whose sessions take turns, and unmounts it. vxrun(1) has more.
+const USAGE: &str = "usage: vxrun fresh|mount IMAGE [-o log|delaylog] < SCRIPT
+Makes a file system in the file IMAGE, or mounts the one that is there, answers the lines of SCRIPT, whose sessions take turns, and
+unmounts it. vxrun(1) has more.
 vxrun 0.1 of Vudkesh";
 
 fn main(rt: HostRuntime) -> ExitCode {

@@ -9,11 +9,11 @@ use Rattle.vx_run.proofs.top.asked.Goals as goal
 pub returns-in-Err-clause-refused : goal.returns-in-Err-clause-refused
 returns-in-Err-clause-refused g c = λ device.
     let s : Setting = record { words = map string_bytes c.args.words.now; script = g.S.Source.left c.args.script.now; device = device; script_faults = g.S.Source.fault_count c.args.script.now } in
-    unasked_words s (g.S.Source.fault_count c.args.script.now) (map string_bytes c.args.words.now) c.in-Err.why refl (sym c.logging_asked.ensures ∙ c.in-Err.is)
+    unasked_words s (g.S.Source.fault_count c.args.script.now) (map string_bytes c.args.words.now) c.in-Err.why refl (sym c.read_words.ensures ∙ c.in-Err.is)
 
 pub returns-in-Ok-parse-clause-asks : goal.returns-in-Ok-parse-clause-asks
 returns-in-Ok-parse-clause-asks g c = λ device.
-    asks_of _ c.in-Ok.logging c.in-Ok-read_all.bytes.items c.in-Ok-parse.read (sym c.logging_asked.ensures ∙ c.in-Ok.is) c.in-Ok-read_all.ensures.bytes
+    asks_of _ c.in-Ok.asked c.in-Ok-read_all.bytes.items c.in-Ok-parse.read (sym c.read_words.ensures ∙ c.in-Ok.is) c.in-Ok-read_all.ensures.bytes
     (subst (λ (b : List ℕ). IsScriptIn b c.in-Ok-parse.read) c.deref.ensures.value c.in-Ok-parse.ensures.ok)
 
 pub returns-clause-refused : goal.returns-clause-refused
@@ -22,5 +22,5 @@ returns-clause-refused g c = λ device.
     let bytes = c.in-Ok-read_all.bytes.items in
     let why = c.in-Err-parse.why in
     subst (λ (w : StartRefusal). IsUnasked s (g.S.Source.fault_count c.read_all.new.source) w) (sym c.from.ensures)
-    (unasked_of s c.in-Ok.logging (g.S.Source.fault_count c.read_all.new.source) bytes why (sym c.logging_asked.ensures ∙ c.in-Ok.is) c.in-Ok-read_all.ensures.bytes
+    (unasked_of s c.in-Ok.asked (g.S.Source.fault_count c.read_all.new.source) bytes why (sym c.read_words.ensures ∙ c.in-Ok.is) c.in-Ok-read_all.ensures.bytes
     (subst (λ (b : List ℕ). IsRefusedFor b why) c.deref.ensures.value c.in-Err-parse.ensures.err))
