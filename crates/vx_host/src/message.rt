@@ -18,7 +18,7 @@ pub fn cause_of(status: u8) -> Option<&'static str>
     match status {
         0 => None,
         1 => Some("the words of the command line are not good ones"),
-        2 => Some("the image is too small, or is no good file system"),
+        2 => Some("the image is too small, is no good file system, or was not left clean"),
         3 => Some("the script is not a good one, and nothing of it was done"),
         4 => Some("a write to the image failed"),
         5 => Some("the standard output did not take all"),
