@@ -81,6 +81,7 @@ module _ (o : World) (d : Device) (m : Mount) (at : IsAt o d m) (c : Call) where
     new = present o m.kernel;
     meta = at.meta;
     laid_out = at.run.mounted_now.well_formed.laid_out;
+    plain = at.run.mounted_now.well_formed.plain;
     reply_is = reply_is;
     state_is = state_is;
     touched = same_touched (present o m.kernel) m.touched;
@@ -164,6 +165,7 @@ module _ (o : World) (d : Device) (m : Mount) (at : IsAt o d m) (c : Call) (repl
     new = ran.0.state;
     meta = ran.1.1.gone.state;
     laid_out = ran.1.1.gone.laid_out;
+    plain = ran.1.1.gone.plain;
     reply_is = λ session. subst (λ (x : Option Done). IfThere x (λ done. (reply ≡ done.reply) ⊎ (is_fault reply ≡ true))) (sym (same_session s place session c ∙ ran.1.0)) (inl ran.1.1.reply_is);
     state_is = λ session. after_reply o m.kernel session c reply ran.0 (sound_is_no_fault reply sound) at.run.next (same_session s place session c ∙ ran.1.0);
     touched = ran.1.1.gone.touched;

@@ -31,7 +31,7 @@ use Rattle.vx_calls.proofs.Keeping.{after_push, in_use_still}
 
 module _ (o : World) (d : Device) (m : Mount) (c : Call) (reply : Reply) (r : HasReplied o d m c reply) where
   pub stands : Stands m.meta r.new
-  stands = record { laid_out = r.laid_out; is = r.meta }
+  stands = record { laid_out = r.laid_out; plain = r.plain; is = r.meta }
 
   same_volume : (r.new.layout.log_blocks ≡ m.kernel.sizes.log_blocks) × (r.new.layout.units ≡ m.kernel.sizes.units)
   same_volume = (

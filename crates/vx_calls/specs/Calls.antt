@@ -12,7 +12,7 @@ use Rattle.vx_base.specs.Lines.{lines_of, line_after}
 use Rattle.vx_dev.specs.Tape as dev
 use Rattle.vx_dev.specs.Moments.{Told}
 use Rattle.vx_model.specs.Allowed.{has_front}
-use Rattle.vx_model.specs.LaidOut.{IsLaidOut}
+use Rattle.vx_model.specs.LaidOut.{IsLaidOut, IsPlain}
 use Rattle.vx_model.specs.Legal.{World, IfThere, unmounted, after_all, is_fault, is_no_space}
 use Rattle.vx_model.specs.State.{State}
 use Rattle.vx_model.specs.Step.{step, has_step}
@@ -79,6 +79,7 @@ pub record HasReplied (o : World) (d : dev.State) (m : Mount) (c : Call) (reply 
   pub new : State
   pub meta : IsStateOf m.meta new
   pub laid_out : IsLaidOut new
+  pub plain : IsPlain new
   pub reply_is : (session : ℕ) → IfThere (step (present o m.kernel) (length m.kernel.history.items) session c) (λ done. (reply ≡ done.reply) ⊎ (is_fault reply ≡ true))
   pub state_is : (session : ℕ) → called_state o m.kernel session c reply ≡ new
   pub touched : IsTouched (present o m.kernel) new m.touched

@@ -2,21 +2,20 @@
 use Rattle.std.proofs.Common.{◌≡◌, ℕ, List, [], ◌∷◌, refl, sym, ap, ap₂, subst, ◌∙◌}
 use Rattle.std.specs.Prelude.{Option, Some, None}
 use Rattle.std.specs.Option.{unwrap_or}
-use Rattle.std.specs.Ordering.{nat_cmp, is_eq}
-use Rattle.std.specs.BTreeMap.{BTreeMap, get}
-use Rattle.std.specs.Map.{lookup}
 use Rattle.vx_dev.specs.Tape.{State, Tape, now}
 use Rattle.vx_sound.specs.Said.{Image, inode_count}
 use Rattle.vx_check.specs.Parts.{Seen, Agrees, HasRead}
 use Rattle.vx_check.specs.Overlays.{image_shown}
-use Rattle.vx_check.specs.Remembering.{remembered_by}
-use Rattle.vx_check.specs.Loading.{HasOnlyRead, OnDevice, AreSaid, AreFound}
+use Rattle.vx_check.specs.Remembering.{seen_of, remembered_by}
+use Rattle.vx_check.specs.Loading.{HasOnlyRead, OnDevice, AreSaid, AreFound, IsOfOneImage}
 use Rattle.vx_check.specs.Parts.{Deeds, IsChecked}
+use Rattle.vx_check.proofs.Remembering.{nothing_seen}
 use Rattle.vx_check.specs.Links.{AreInodes, AreChildren}
 use Rattle.vx_check.specs.Contents.{AreContents}
 use Rattle.vx_check.specs.declared.check.Found.{Found}
 use Rattle.vx_check.specs.declared.stop.Stop.{Stop}
-use Rattle.std.specs.Prelude.{Result, Ok, Err, IfOk, length, true}
+use Rattle.vx_check.specs.declared.stop.Stop.TheVariants.{NoMemory}
+use Rattle.std.specs.Prelude.{Result, Ok, Err, IfOk, length, replicate, true}
 use Rattle.vx_layout.specs.Places.{Volume}
 
 -- the image that the device shows, or else one of what was read alone
@@ -31,26 +30,32 @@ answered_agrees None doubt seen h = λ s bytes is. ap (λ (o : Option (List ℕ)
 answered_agrees (Some t) [] seen h = h (now t) refl
 answered_agrees (Some t) (x ∷ xs) seen h = λ s bytes is. ap (λ (o : Option (List ℕ)). unwrap_or o []) is
 
-module _ (a b : ℕ) (d e : State) (old new : BTreeMap ℕ (List ℕ)) (read : HasRead (remembered_by a d old) (remembered_by b e new)) (empty : old.entries ≡ []) where
-  start : (image : Image) → Agrees (Some (get nat_cmp old)) image
+answered_shown : (d : State) (seen : Seen) → OnDevice d (λ real. answered d.told d.doubt seen ≡ real)
+unfolding answered now
+answered_shown d seen t told none = ap₂ (λ (o : Option Tape) (xs : List ℕ). answered o xs seen) told none
+
+module _ (a b : ℕ) (d e : State) (sectors : ℕ) (old new : List (Option (List ℕ))) (read : HasRead (remembered_by a d old) (remembered_by b e new)) (empty : old ≡ replicate sectors None) where
+  start : (image : Image) → Agrees (Some (seen_of old)) image
   start image = λ s bytes is.
-      let none : get nat_cmp old s ≡ None = ap (lookup (λ k. is_eq (nat_cmp s k))) empty in
-      let bad : None ≡ Some bytes = sym none ∙ is in
+      let bad : None ≡ Some bytes = sym (ap (λ kept. seen_of kept s) empty ∙ nothing_seen sectors s) ∙ is in
       absurd (cc)
 
   pub image_found : Image
-  image_found = answered d.told d.doubt (get nat_cmp new)
+  image_found = answered d.told d.doubt (seen_of new)
 
-  pub found_agrees : Agrees (Some (get nat_cmp new)) image_found
+  pub found_agrees : Agrees (Some (seen_of new)) image_found
   unfolding image_found
-  found_agrees = answered_agrees d.told d.doubt (get nat_cmp new) (λ image is. read.right image is (start image))
+  found_agrees = answered_agrees d.told d.doubt (seen_of new) (λ image is. read.right image is (start image))
 
   pub found_shown : OnDevice d (λ real. image_found ≡ real)
-  unfolding image_found answered now
-  found_shown t told none = ap₂ (λ (o : Option Tape) (xs : List ℕ). answered o xs (get nat_cmp new)) told none
+  unfolding image_found
+  found_shown = answered_shown d (seen_of new)
 
-  pub device_agrees : OnDevice d (Agrees (Some (get nat_cmp new)))
-  device_agrees t told none = subst (Agrees (Some (get nat_cmp new))) (found_shown t told none) found_agrees
+  pub device_agrees : OnDevice d (Agrees (Some (seen_of new)))
+  device_agrees t told none = subst (Agrees (Some (seen_of new))) (found_shown t told none) found_agrees
+
+  pub one_answer : {T : Type 0} (v : Volume) (result : Result T Stop) → ((image : Image) → Agrees (Some (seen_of new)) image → IsChecked true v image result) → IsOfOneImage v d result
+  one_answer v result checked = record { image = image_found; checked = checked image_found found_agrees; shown = found_shown }
 
   pub only_read : HasOnlyRead d e
   only_read = record {
@@ -61,6 +66,10 @@ module _ (a b : ℕ) (d e : State) (old new : BTreeMap ℕ (List ℕ)) (read : H
     write_faults = ap (λ (x : Deeds). x.write_faults) read.deeds;
     read_faults = read.faults;
   }
+
+-- where nothing was read the answer is that memory is short
+pub nothing_read : {T : Type 0} (v : Volume) (d : State) → IsOfOneImage {T = T} v d (Err NoMemory)
+nothing_read v d = record { image = answered d.told d.doubt (λ s. None); checked = tt; shown = answered_shown d (λ s. None) }
 
 -- ---- what is found
 

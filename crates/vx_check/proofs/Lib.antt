@@ -15,4 +15,5 @@ pub mod OneInode
 pub mod SlotLists
 pub mod Passing
 pub mod Keeping
+pub mod Remembering
 pub mod Answering

@@ -7,5 +7,6 @@ pub mod Links
 pub mod Contents
 pub mod Slots
 pub mod Overlays
+pub mod Kept
 pub mod Remembering
 pub mod Loading

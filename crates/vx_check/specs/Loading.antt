@@ -1,10 +1,12 @@
 -- What is read of a device.
-use Rattle.std.specs.Prelude.{◌≡◌, ◌≤◌, true, List, [], length, Option, Some}
+use Rattle.std.specs.Prelude.{◌≡◌, ◌≤◌, true, List, [], length, Option, Some, Result}
 use Rattle.vx_base.specs.declared.inode.InodeValue.{InodeValue}
 use Rattle.vx_dev.specs.Tape.{State, Tape, now}
 use Rattle.vx_layout.specs.Places.{Volume}
 use Rattle.vx_sound.specs.Said.{Image, inode_count}
 use Rattle.vx_sound.specs.Sound.{IsSound}
+use Rattle.vx_check.specs.declared.stop.Stop.{Stop}
+use Rattle.vx_check.specs.Parts.{IsChecked}
 use Rattle.vx_check.specs.Reaching.{Children}
 use Rattle.vx_check.specs.Links.{AreInodes, AreChildren}
 use Rattle.vx_check.specs.Contents.{InodeContents, AreContents}
@@ -21,6 +23,12 @@ pub record HasOnlyRead (old new : State) : Type 0 where
 -- of the image that a device shows: one that tells what it has done, with no write of it in doubt
 abbrev pub OnDevice : State → (Image → Type 0) → Type 0
 OnDevice d P = (t : Tape) → d.told ≡ Some t → d.doubt ≡ [] → P (now t)
+
+-- The answer, also one that refuses, is right of one image; where the device shows an image, it is that one.
+pub record IsOfOneImage {T : Type 0} (v : Volume) (d : State) (result : Result T Stop) : Type 0 where
+  pub image : Image
+  pub checked : IsChecked true v image result
+  pub shown : OnDevice d (λ real. image ≡ real)
 
 -- the metadata of the image are sound, and it says these inodes, the numbers that their entries name, and their contents
 pub record AreSaid (v : Volume) (image : Image) (inodes : List (Option InodeValue)) (children : Children) (contents : List InodeContents) : Type 0 where

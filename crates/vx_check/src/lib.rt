@@ -11,6 +11,7 @@ mod directory;
 mod extents;
 mod inode;
 mod inodes;
+mod kept;
 mod links;
 mod names;
 mod overlaid;

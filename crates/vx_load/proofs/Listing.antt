@@ -2,9 +2,11 @@
 use Rattle.std.proofs.Common.{◌≡◌, ℕ, ◌≤◌, suc, true, List, [], ◌∷◌, length, map, get_or, Option, Some, None, Result, Ok, refl, sym, ap, ◌∙◌, subst}
 use Rattle.std.specs.Prelude.{IfSome, slice_get}
 use Rattle.std.specs.Option.{option_map}
+use Rattle.std.specs.FinMap as map_of
+use Rattle.vx_model.specs.Tree.{Node, IsFile, IsDirectory}
 use Rattle.vx_base.specs.declared.inode.DirEntry.{DirEntry}
 use Rattle.vx_base.specs.declared.inode.InodeValue.{InodeValue}
-use Rattle.vx_base.specs.declared.kind.FileKind.TheVariants.{Directory}
+use Rattle.vx_base.specs.declared.kind.FileKind.TheVariants.{File, Directory}
 use Rattle.vx_layout.specs.Places.{Volume, sectors_of}
 use Rattle.vx_layout.specs.Supers.{IsSuper, volume_of}
 use Rattle.vx_layout.specs.declared.superblock.Super.{Super}
@@ -13,10 +15,10 @@ use Rattle.vx_check.specs.Loading.{AreSaid}
 use Rattle.vx_check.specs.Reaching.{Children}
 use Rattle.vx_sound.specs.Said.{Image, directory_blocks, entries_said, inode_count, inode_said}
 use Rattle.vx_sound.specs.Sound.{IsSound}
-use Rattle.vx_model.specs.Contents.{inode_value, parsed_of}
+use Rattle.vx_model.specs.Contents.{inode_for, inode_value, parsed_of, settled_of}
 use Rattle.vx_model.specs.Images.{Stands}
 use Rattle.vx_model.specs.Layout.{DirectoryBlock, block_numbers, blocks_at, volume}
-use Rattle.vx_model.specs.LaidOut.{entries_of}
+use Rattle.vx_model.specs.LaidOut.{HasNothing, IsPlain, entries_of}
 use Rattle.vx_model.specs.Saying.{IsImageOf, StateSays}
 use Rattle.vx_model.specs.State.{State}
 use Rattle.vx_said.specs.Plain.{HasPlainFiles, IsPlainIfFile}
@@ -28,9 +30,9 @@ use Rattle.vx_replay.specs.declared.image_check.CleanFront.{CleanFront}
 use Rattle.vx_txn.specs.Loads.{IsDirectoryThere, entries_by_block}
 use Rattle.vx_load.specs.Listed.{AreOf, IsThere}
 use Rattle.vx_load.specs.Loads.{HoldsState, IsStateFor}
-use Rattle.vx_load.specs.Plain.{ArePlain, is_plain}
+use Rattle.vx_load.specs.Plain.{ArePlain}
 use Rattle.vx_load.proofs.Names.{once_named}
-use Rattle.vx_load.proofs.Plainness.{plain_if_file}
+use Rattle.vx_load.proofs.Plainness.{plain_slot}
 
 -- the law of states that images say
 abbrev pub SaidLaw : Type 0
@@ -49,15 +51,19 @@ entries_each : (f : ℕ → List DirEntry) (ds : List DirectoryBlock) → ((i : 
 entries_each f [] each = refl
 entries_each f (d ∷ ds) each = ap (λ es. es ∷ map f (block_numbers ds)) (each 0 d refl) ∙ ap (λ rest. d.entries ∷ rest) (entries_each f ds (λ i x there. each (suc i) x there))
 
+-- a file without bytes has no block
+file_there : (s : State) → IsPlain s → (n : ℕ) (i : InodeValue) (o : Option Node) → map_of.get s.tree.nodes n ≡ o → option_map (inode_for (settled_of s.layout n)) o ≡ Some i → i.inode.kind ≡ File → HasNothing s.layout n
+file_there s plain n i None at is kind = absurd cc
+file_there s plain n i (Some (IsFile f)) at is kind = (plain.files n f at).1
+file_there s plain n i (Some (IsDirectory d)) at is kind =
+    let e : inode_for (settled_of s.layout n) (IsDirectory d) ≡ i = cc in
+    let other : Directory ≡ File = ap (λ (x : InodeValue). x.inode.kind) e ∙ kind in absurd cc
+
 module _ (said : SaidLaw) (says : StateSays) (front : CleanFront) (size : ℕ) (image : Image) (inodes : List (Option InodeValue)) (children : Children) (contents : List InodeContents)
     (can : CanMount size front) (are : AreSaid (volume_of front.superblock) image inodes children contents) (plain : ArePlain inodes)
   where
     abbrev v : Super
     v = front.superblock
-
-    plain_slot : (o : Option InodeValue) → is_plain o ≡ true → IfSome o (λ i. IsPlainIfFile i.inode.kind i)
-    plain_slot None h = tt
-    plain_slot (Some i) h = plain_if_file i.inode.kind i h
 
     pub plain_files : HasPlainFiles (volume_of v) image
     plain_files = λ n. subst (λ (o : Option InodeValue). IfSome o (λ i. IsPlainIfFile i.inode.kind i)) (are.inodes_are n) (plain_slot (get_or inodes n None) (plain n))
@@ -106,7 +112,11 @@ module _ (said : SaidLaw) (says : StateSays) (front : CleanFront) (size : ℕ) (
           })
 
     there : (n : ℕ) → IsThere state n (get_or inodes n None) (get_or contents n no_contents)
-    there n = record { inode_is = inode_is n; directory = λ i is kind. directory_there n i is kind }
+    there n = record {
+      inode_is = inode_is n;
+      file = λ i is kind. file_there state found.well_formed.plain n i (map_of.get state.tree.nodes n) refl (inode_is n ∙ is) kind;
+      directory = λ i is kind. directory_there n i is kind;
+    }
 
     pub listed : length inodes ≡ inode_count (volume_of v) → length contents ≡ inode_count (volume_of v) → AreOf v state inodes contents
     listed count1 count2 = record {

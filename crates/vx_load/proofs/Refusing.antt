@@ -1,5 +1,7 @@
 -- Why an image is not mounted.
-use Rattle.std.proofs.Common.{◌≡◌, ℕ, ◌≤◌, true, false, List, get_or, Option, Some, None, refl, sym, ap, ◌∙◌, arith}
+use Rattle.std.specs.Prelude.{◌<◌, IfSome}
+use Rattle.vx_said.specs.Plain.{IsPlainIfFile}
+use Rattle.std.proofs.Common.{subst, ◌≡◌, ℕ, ◌≤◌, true, false, List, get_or, Option, Some, None, refl, sym, ap, ◌∙◌, arith}
 use Rattle.vx_base.specs.Faults.{Rose}
 use Rattle.vx_base.specs.declared.inode.InodeValue.{InodeValue}
 use Rattle.vx_dev.specs.Tape as dev
@@ -17,9 +19,9 @@ use Rattle.vx_replay.specs.LogReads.{IsRead, Shows}
 use Rattle.vx_replay.specs.declared.image_check.CheckRefusal.TheVariants as check
 use Rattle.vx_replay.specs.declared.image_check.CleanFront.{CleanFront}
 use Rattle.vx_load.specs.Loads.{HasBytesAt, IsRefused, refusal_of}
-use Rattle.vx_load.specs.Plain.{is_plain}
+use Rattle.vx_load.specs.Plain.{IsHeldAt, is_plain}
 use Rattle.vx_load.proofs.Listing.{PassesLaw, ok_super}
-use Rattle.vx_load.proofs.Plainness.{held}
+use Rattle.vx_load.proofs.Plainness.{held, plain_slot}
 
 abbrev pub BadLaw : Type 0
 BadLaw = (size : ℕ) (image : ℕ → List ℕ) (c : CleanFront) (sector : ℕ) → CanMount size c → HasCleanFront size image c → IsBadMeta true (volume_of c.superblock) image sector → IsFault true size image (check.BadMeta sector)
@@ -51,9 +53,12 @@ read_on d e f one two = record {
 module _ (passes : PassesLaw) (size : ℕ) (image : ℕ → List ℕ) (front : CleanFront) (can : CanMount size front) (clean : HasCleanFront size image front)
     (inodes : List (Option InodeValue)) (are : AreInodes inodes (volume_of front.superblock) image) (sound : IsSound true (volume_of front.superblock) image) (ino : ℕ)
   where
-    of_slot : (o : Option InodeValue) → is_plain o ≡ false → inode_said (volume_of front.superblock) image ino ≡ o → HasBytesAt size image ino
-    of_slot None bytes said = absurd (cc)
-    of_slot (Some i) bytes said =
+    plain_before : ((k : ℕ) → k < ino → is_plain (get_or inodes k None) ≡ true) → (k : ℕ) → k < ino → IfSome (inode_said (volume_of front.superblock) image k) (λ i. IsPlainIfFile i.inode.kind i)
+    plain_before before k lt = subst (λ (o : Option InodeValue). IfSome o (λ i. IsPlainIfFile i.inode.kind i)) (are k) (plain_slot (get_or inodes k None) (before k lt))
+
+    of_slot : (o : Option InodeValue) → is_plain o ≡ false → ((k : ℕ) → k < ino → is_plain (get_or inodes k None) ≡ true) → inode_said (volume_of front.superblock) image ino ≡ o → HasBytesAt size image ino
+    of_slot None bytes before said = absurd (cc)
+    of_slot (Some i) bytes before said =
         let why = held i.inode.kind i bytes in
         record {
           superblock = front.superblock;
@@ -63,7 +68,8 @@ module _ (passes : PassesLaw) (size : ℕ) (image : ℕ → List ℕ) (front : C
           said = said;
           file = why.0;
           held = why.1;
+          first = plain_before before;
         }
 
-    pub bytes_at : is_plain (get_or inodes ino None) ≡ false → HasBytesAt size image ino
-    bytes_at bytes = of_slot (get_or inodes ino None) bytes (sym (are ino))
+    pub bytes_at : IsHeldAt inodes ino → HasBytesAt size image ino
+    bytes_at is = of_slot (get_or inodes ino None) is.here is.before (sym (are ino))

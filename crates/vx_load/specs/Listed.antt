@@ -1,18 +1,19 @@
 -- The inodes of a state, as they were read.
 use Rattle.std.specs.Prelude.{◌≡◌, ℕ, ◌*◌, List, length, get_or, Option, Some, None}
 use Rattle.vx_base.specs.declared.inode.InodeValue.{InodeValue}
-use Rattle.vx_base.specs.declared.kind.FileKind.TheVariants.{Directory}
+use Rattle.vx_base.specs.declared.kind.FileKind.TheVariants.{File, Directory}
 use Rattle.vx_layout.specs.declared.superblock.Super.{Super}
 use Rattle.vx_check.specs.Contents.{InodeContents, no_contents}
 use Rattle.vx_model.specs.Contents.{inode_value}
-use Rattle.vx_model.specs.LaidOut.{IsLaidOut}
+use Rattle.vx_model.specs.LaidOut.{HasNothing, IsLaidOut}
 use Rattle.vx_model.specs.State.{State}
 use Rattle.vx_txn.specs.Loads.{HasSizes, IsDirectoryThere, IsLoadedTo}
 use Rattle.vx_txn.specs.declared.meta.Meta.{Meta}
 
--- this is what the state has at a number, with the contents of a directory
+-- This is what the state has at a number, with the contents of a directory. A file has no block.
 pub record IsThere (s : State) (n : ℕ) (inode : Option InodeValue) (contents : InodeContents) : Type 0 where
   pub inode_is : inode_value s n ≡ inode
+  pub file : (i : InodeValue) → inode ≡ Some i → i.inode.kind ≡ File → HasNothing s.layout n
   pub directory : (i : InodeValue) → inode ≡ Some i → i.inode.kind ≡ Directory → IsDirectoryThere s n i.inode contents.extents contents.maps contents.blocks
 
 -- the metadata have all inodes of a state below n, which has this at n

@@ -1,5 +1,5 @@
 -- Images that can be mounted, and what is loaded of one.
-use Rattle.std.specs.Prelude.{◌≡◌, ℕ, true, List, Some, None, Ok}
+use Rattle.std.specs.Prelude.{◌≡◌, ◌<◌, ℕ, true, List, Some, None, Ok, IfSome}
 use Rattle.vx_base.specs.Faults.{Rose}
 use Rattle.vx_base.specs.declared.inode.InodeValue.{InodeValue}
 use Rattle.vx_base.specs.declared.kind.FileKind.TheVariants.{File}
@@ -16,7 +16,7 @@ use Rattle.vx_model.specs.Images.{Stands}
 use Rattle.vx_model.specs.Reads.{ImageReadsAs}
 use Rattle.vx_model.specs.State.{State, directory_blocks}
 use Rattle.vx_wellformed.specs.WellFormed.{IsWellFormed}
-use Rattle.vx_said.specs.Plain.{HasPlainFiles, IsPlain}
+use Rattle.vx_said.specs.Plain.{HasPlainFiles, IsPlain, IsPlainIfFile}
 use Rattle.vx_replay.specs.BadImages.{first_super}
 use Rattle.vx_replay.specs.ImageChecks.{CanMount, IsFault, PassesCheck}
 use Rattle.vx_replay.specs.LogReads.{Shows}
@@ -58,7 +58,7 @@ pub record IsLoaded (d : dev.State) (l : Loaded) : Type 0 where
   pub meta : IsStateOf l.meta state
   pub shown : (t : Tape) → Shows d t → HoldsState l.front state d.size (now t)
 
--- the image passes the strict check, and the file of this number has bytes
+-- the image passes the strict check, and the file of this number has bytes, the first of all
 pub record HasBytesAt (size : ℕ) (image : ℕ → List ℕ) (ino : ℕ) : Type 0 where
   pub superblock : Super
   pub first_is : first_super size image ≡ Ok superblock
@@ -67,6 +67,7 @@ pub record HasBytesAt (size : ℕ) (image : ℕ → List ℕ) (ino : ℕ) : Type
   pub said : inode_said (volume_of superblock) image ino ≡ Some value
   pub file : value.inode.kind ≡ File
   pub held : IsPlain value → ⊥
+  pub first : (n : ℕ) → n < ino → IfSome (inode_said (volume_of superblock) image n) (λ i. IsPlainIfFile i.inode.kind i)
 
 -- how the check of the metadata refuses
 abbrev pub refusal_of : Stop → LoadRefusal

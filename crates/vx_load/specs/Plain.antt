@@ -1,5 +1,5 @@
 -- Files with bytes among the inodes that were read.
-use Rattle.std.specs.Prelude.{◌≡◌, ℕ, ◌==◌, ◌&&◌, Bool, true, false, List, get_or, Option, Some, None}
+use Rattle.std.specs.Prelude.{◌≡◌, ◌<◌, ℕ, ◌==◌, ◌&&◌, Bool, true, false, List, get_or, Option, Some, None}
 use Rattle.vx_base.specs.declared.call.ExtAttrs.{ExtAttrs}
 use Rattle.vx_base.specs.declared.inode.InodeValue.{InodeValue}
 use Rattle.vx_base.specs.declared.kind.FileKind.{FileKind}
@@ -20,6 +20,7 @@ is_plain (Some i) = is_plain_file i.inode.kind i
 abbrev pub ArePlain : List (Option InodeValue) → Type 0
 ArePlain inodes = (n : ℕ) → is_plain (get_or inodes n None) ≡ true
 
--- there is one at this number
-abbrev pub IsHeldAt : List (Option InodeValue) → ℕ → Type 0
-IsHeldAt inodes n = is_plain (get_or inodes n None) ≡ false
+-- there is one at this number, and none below it
+pub record IsHeldAt (inodes : List (Option InodeValue)) (n : ℕ) : Type 0 where
+  pub here : is_plain (get_or inodes n None) ≡ false
+  pub before : (k : ℕ) → k < n → is_plain (get_or inodes k None) ≡ true

@@ -2,13 +2,13 @@
 use Rattle.std.proofs.Common.{◌≡◌, ℕ, zero, suc, ◌+◌, ◌*◌, ◌<◌, Bool, true, false, cond, List, [], ◌∷◌, ◌++◌, map, take, drop, Option, Some, None, refl, sym, ap, ◌∙◌, inl, inr, lit<}
 use Rattle.std.specs.Prelude.{◌⊎◌, ◌||◌, ◌==◌, is_some}
 use Rattle.std.specs.Option.{option_map, option_and_then}
-use Rattle.vx_layout.specs.Places.{Volume, block_sector, sector_part, IsVolume}
+use Rattle.vx_layout.specs.Places.{Volume, block_sector, sector_part}
 use Rattle.vx_extents.specs.Extents.{Mapped, stretches}
 use Rattle.vx_sound.specs.Reading.{Form, form_bytes}
 use Rattle.vx_space.specs.Space.{maps_for}
-use Rattle.vx_model.specs.Layout.{DirectoryBlock, Layout, Claim, Claimed, volume, blocks_at, space_at, maps_at, block_numbers, settled_at, settled_maps, chain_at, names_claimed, page_claimed, claimed_at, claim_among, or_claim, claim_below, claim_of}
+use Rattle.vx_model.specs.Layout.{Layout, Claim, Claimed, volume, blocks_at, space_at, maps_at, block_numbers, settled_at, settled_maps, chain_at, names_claimed, page_claimed, claimed_at, claim_among, or_claim, claim_below, claim_of}
 use Rattle.vx_model.specs.State.{State}
-use Rattle.vx_model.specs.Images.{among, content_at, is_metadata}
+use Rattle.vx_model.specs.Images.{among, is_metadata}
 use Rattle.vx_model.specs.Contents.{parsed_of}
 use Rattle.vx_model.specs.LaidOut.{HoldsData, named}
 use Rattle.vx_model.proofs.Batches.{part_content}

@@ -3,14 +3,16 @@ use Rattle.std.proofs.Common.{◌≡◌, ◌≢◌, ℕ, zero, suc, ◌+◌, ◌
 use Rattle.std.specs.Prelude.{◌||◌, ◌==◌, is_some, slice_get}
 use Rattle.std.specs.Option.{option_map}
 use Rattle.std.proofs.lemmas.Bool.{eq-eqb, eqb-true, true≢false, or_parts}
-use Rattle.std.proofs.lemmas.List.{append-nil, take_all, length-map}
+use Rattle.std.proofs.lemmas.List.{append-nil, take_all, length-map, map-append}
+use Rattle.std.proofs.lemmas.List.Folds.{list_any-append}
 use Rattle.vx_base.specs.declared.kind.Kind.TheVariants.{Data}
 use Rattle.vx_extents.specs.Extents.{Mapped, stretches}
 use Rattle.vx_space.specs.Space.{Space, no_space, page_blocks, maps_for}
-use Rattle.vx_model.specs.Layout.{DirectoryBlock, Layout, Claim, Claimed, blocks_at, space_at, maps_at, block_numbers, owned, pages_from, settled_at, settled_maps, chain_of, chain_at, claimed_at, claim_among, or_claim, claim_below, claim_of}
+use Rattle.vx_model.specs.Layout.{DirectoryBlock, Layout, Claim, Claimed, blocks_at, space_at, maps_at, block_numbers, owned, pages_from, settled_at, settled_maps, chain_of, chain_at, given_up, claimed_at, claim_among, or_claim, claim_below, claim_of}
 use Rattle.vx_model.specs.Images.{among}
 use Rattle.vx_model.specs.Contents.{settled_of}
 use Rattle.vx_model.proofs.Claims.{claimed, claims_split}
+use Rattle.vx_model.proofs.NextBlock.{page_numbers}
 
 -- ---- numbers in a list
 
@@ -94,6 +96,29 @@ used_same l m b units same =
     claimed n b (claimed_at m n) ∙ ap (λ (xs : List ℕ). among xs b) (claims_split m n)
     ∙ same n
     ∙ sym (claimed n b (claimed_at l n) ∙ ap (λ (xs : List ℕ). among xs b) (claims_split l n))) (128 * l.units)
+
+-- ---- what an inode gives up
+
+not_taken : (k : ℕ) (xs : List ℕ) (b : ℕ) → among xs b ≡ false → among (take k xs) b ≡ false
+not_taken zero xs b h = refl
+not_taken (suc k) [] b h = refl
+not_taken (suc k) (x ∷ xs) b h = let parts = or_parts (b == x) (among xs b) h in λ i. parts.0 i || not_taken k xs b parts.1 i
+
+pub settled_blocks : (l : Layout) (n : ℕ) → page_blocks (settled_at l n) ≡ block_numbers (blocks_at l n) ++ page_blocks (space_at l n).settled
+settled_blocks l n =
+    map-append (λ (m : Mapped). m.block) (pages_from 0 (blocks_at l n)) (space_at l n).settled
+    ∙ ap (λ (bs : List ℕ). bs ++ page_blocks (space_at l n).settled) (page_numbers 0 (blocks_at l n))
+
+-- what it does not give up it does not claim
+pub given_claims : (l : Layout) (n b : ℕ) → among (given_up l n) b ≡ false → among (numbers_claimed l n) b ≡ false
+given_claims l n b h =
+    let ns : List ℕ = block_numbers (blocks_at l n) in
+    let ps : List ℕ = page_blocks (space_at l n).settled in
+    let all = sym (list_any-append (λ y. b == y) (ns ++ ps) (maps_at l n)) ∙ ap (λ (xs : List ℕ). among (xs ++ maps_at l n) b) (sym (settled_blocks l n)) ∙ h in
+    let two = or_parts (among (ns ++ ps) b) (among (maps_at l n) b) all in
+    let pages = or_parts (among ns b) (among ps b) (sym (list_any-append (λ y. b == y) ns ps) ∙ two.0) in
+    list_any-append (λ y. b == y) ns (ps ++ settled_maps l n)
+    ∙ (λ i. pages.0 i || (list_any-append (λ y. b == y) ps (settled_maps l n) ∙ (λ j. pages.1 j || not_taken (maps_for (settled_at l n)) (maps_at l n) b two.1 j)) i)
 
 -- an inode whose pages are all on the device claims all that it has
 pub record IsWhole (l : Layout) (n : ℕ) : Type 0 where

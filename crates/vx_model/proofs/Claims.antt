@@ -1,20 +1,20 @@
 -- Which inode claims a block: the one that has it.
-use Rattle.std.proofs.Common.{◌≡◌, ◌≢◌, ℕ, zero, suc, ◌+◌, ◌*◌, ◌<◌, ◌≤◌, Bool, true, false, cond, List, [], ◌∷◌, ◌++◌, length, map, take, drop, Option, Some, None, refl, sym, ap, subst, ◌∙◌, arith, inl, inr}
-use Rattle.std.specs.Prelude.{◌||◌, ◌==◌, is_some, slice_get, IsTrue}
+use Rattle.std.proofs.Common.{◌≡◌, ◌≢◌, ℕ, zero, suc, ◌*◌, ◌<◌, ◌≤◌, Bool, true, false, cond, List, [], ◌∷◌, ◌++◌, map, take, drop, Option, Some, None, refl, sym, ap, subst, ◌∙◌, arith, inl, inr}
+use Rattle.std.specs.Prelude.{◌||◌, ◌==◌, is_some, slice_get}
 use Rattle.std.specs.FinMap as map_of
 use Rattle.std.proofs.Math.Seq.{take-length}
 use Rattle.std.proofs.lemmas.Bool.{cases_Bool, cases_eq, eq-eqb}
-use Rattle.std.proofs.lemmas.List.{append-nil, append_assoc, map-append}
+use Rattle.std.proofs.lemmas.List.{append_assoc, map-append}
 use Rattle.vx_base.specs.declared.inode.Extent.{Extent}
-use Rattle.vx_layout.specs.Places.{is_data, block_sector}
 use Rattle.vx_extents.specs.Extents.{Mapped, stretches}
-use Rattle.vx_space.specs.Space.{Space, no_space, page_blocks, maps_for}
+use Rattle.vx_space.specs.Space.{Space, page_blocks, maps_for}
+use Rattle.vx_space.specs.Laws.{IsPart}
 use Rattle.vx_space.specs.Uses.{uses}
 use Rattle.vx_model.specs.Tree.{Node, IsFile, IsDirectory}
-use Rattle.vx_model.specs.Layout.{DirectoryBlock, Layout, Claim, Claimed, volume, blocks_at, space_at, maps_at, block_numbers, owned, is_owned_below, is_owned, pages_from, settled_at, settled_maps, chain_of, chain_at, names_claimed, page_claimed, claimed_at, claim_among, or_claim, claim_below, claim_of}
+use Rattle.vx_model.specs.Layout.{DirectoryBlock, Layout, Claim, Claimed, blocks_at, space_at, maps_at, block_numbers, owned, is_owned_below, is_owned, settled_at, settled_maps, chain_of, chain_at, names_claimed, page_claimed, claimed_at, claim_among, or_claim, claim_below, claim_of}
 use Rattle.vx_model.specs.State.{State}
 use Rattle.vx_model.specs.Images.{among}
-use Rattle.vx_model.specs.LaidOut.{HasNothing, IsNodeOf, IsHeld, IsLaidOut, Owns, IsOnceUsed}
+use Rattle.vx_model.specs.LaidOut.{IsHeld, IsLaidOut, IsOnDevice, Owns}
 use Rattle.vx_model.proofs.Uses.{one, uses_append, not_among, is_among}
 
 abbrev pub claimed_blocks : List Claimed → List ℕ
@@ -81,51 +81,44 @@ parted [] k x at = absurd cc
 parted (y ∷ ys) zero x at = let e : y ≡ x = cc in ([], ys, ap (λ z. z ∷ ys) e)
 parted (y ∷ ys) (suc k) x at = let rest = parted ys k x at in (y ∷ rest.0, rest.1, ap (λ zs. y ∷ zs) rest.2)
 
--- ---- laid-out states: no page of a file so far, and as many map blocks as a directory needs
+-- ---- what the device says of an inode is some of what it has
 
-no_right : (xs ys : List ℕ) → xs ++ ys ≡ [] → ys ≡ []
-no_right [] ys h = h
-no_right (x ∷ xs) ys h = absurd cc
+-- the blocks of the settled pages are those of present ones
+pub part_uses : (xs ys : List Mapped) → IsPart xs ys → (b : ℕ) → uses (page_blocks xs) b ≤ uses (page_blocks ys) b
+part_uses [] ys part b = omega arith
+part_uses (m ∷ ms) [] part b = absurd part
+part_uses (m ∷ ms) (n ∷ ns) (inl both) b =
+    let rest = part_uses ms ns both.1 b in
+    let same : one b m.block ≡ one b n.block = ap (one b) both.0.block in omega (arith, rest, same)
+part_uses (m ∷ ms) (n ∷ ns) (inr later) b = let rest = part_uses (m ∷ ms) ns later b in omega (arith, rest)
 
-no_space_by : (l : Layout) (n : ℕ) (o : Option Node) → IsHeld l n o → space_at l n ≡ no_space
-no_space_by l n None h = h.space
-no_space_by l n (Some (IsFile f)) h = h.0.1.space
-no_space_by l n (Some (IsDirectory d)) h = h.0.space
+take_uses : (k : ℕ) (xs : List ℕ) (b : ℕ) → uses (take k xs) b ≤ uses xs b
+take_uses zero xs b = omega arith
+take_uses (suc k) [] b = omega arith
+take_uses (suc k) (x ∷ xs) b = let rest = take_uses k xs b in omega (arith, rest)
 
-pub without_space : (s : State) → IsLaidOut s → (n : ℕ) → space_at s.layout n ≡ no_space
-without_space s is n = no_space_by s.layout n (map_of.get s.tree.nodes n) (is.nodes n)
+part_by : (l : Layout) (n : ℕ) (o : Option Node) → IsHeld l n o → IsPart (space_at l n).settled (space_at l n).present
+part_by l n None h = subst (λ (x : Space). IsPart x.settled x.present) (sym h.space) tt
+part_by l n (Some (IsFile f)) h = h.0.space.part
+part_by l n (Some (IsDirectory d)) h = subst (λ (x : Space). IsPart x.settled x.present) (sym h.0.space) tt
 
--- the settled pages are a directory's
-pub settled_pages : (s : State) → IsLaidOut s → (n : ℕ) → settled_at s.layout n ≡ pages_from 0 (blocks_at s.layout n)
-settled_pages s is n = ap (λ (x : Space). pages_from 0 (blocks_at s.layout n) ++ x.settled) (without_space s is n) ∙ append-nil (pages_from 0 (blocks_at s.layout n))
+-- the settled pages are among the present ones
+pub settled_part : (s : State) → IsLaidOut s → (n : ℕ) → IsPart (space_at s.layout n).settled (space_at s.layout n).present
+settled_part s is n = part_by s.layout n (map_of.get s.tree.nodes n) (is.nodes n)
 
-take_none : (k : ℕ) (ms : List ℕ) → ms ≡ [] → take k ms ≡ ms
-take_none zero [] h = refl
-take_none (suc k) [] h = refl
-take_none k (m ∷ ms) h = absurd cc
-
-none_settled : (l : Layout) (n : ℕ) → HasNothing l n → settled_maps l n ≡ maps_at l n
-none_settled l n h =
-    take_none (maps_for (settled_at l n)) (maps_at l n)
-    (no_right (page_blocks (space_at l n).present) (maps_at l n) (no_right (block_numbers (blocks_at l n)) (page_blocks (space_at l n).present ++ maps_at l n) h.none))
-
-settled_by : (s : State) (is : IsLaidOut s) (n : ℕ) (o : Option Node) → IsHeld s.layout n o → settled_maps s.layout n ≡ maps_at s.layout n
-settled_by s is n None h = none_settled s.layout n h
-settled_by s is n (Some (IsFile f)) h = none_settled s.layout n h.0.1
-settled_by s is n (Some (IsDirectory d)) h =
-    ap (λ (ps : List Mapped). take (maps_for ps) (maps_at s.layout n)) (settled_pages s is n) ∙ ap (λ k. take k (maps_at s.layout n)) (sym h.0.maps) ∙ take-length (maps_at s.layout n)
-
--- all map blocks are on the device
-pub all_maps : (s : State) → IsLaidOut s → (n : ℕ) → settled_maps s.layout n ≡ maps_at s.layout n
-all_maps s is n = settled_by s is n (map_of.get s.tree.nodes n) (is.nodes n)
-
--- what the device says of an inode is all that it has
-pub claims_owned : (s : State) → IsLaidOut s → (n : ℕ) → claimed_blocks (claimed_at s.layout n) ≡ owned s.layout n
-claims_owned s is n =
-    let none = without_space s is n in
-    claims_split s.layout n
-    ∙ (λ i. block_numbers (blocks_at s.layout n) ++ (page_blocks (none i).settled ++ all_maps s is n i))
-    ∙ (λ i. block_numbers (blocks_at s.layout n) ++ (page_blocks (sym none i).present ++ maps_at s.layout n))
+pub claims_owned : (s : State) → IsLaidOut s → (n b : ℕ) → uses (claimed_blocks (claimed_at s.layout n)) b ≤ uses (owned s.layout n) b
+claims_owned s is n b =
+    let names : List ℕ = block_numbers (blocks_at s.layout n) in
+    let x : Space = space_at s.layout n in
+    let ms : List ℕ = maps_at s.layout n in
+    let said : uses (claimed_blocks (claimed_at s.layout n)) b ≡ uses (names ++ (page_blocks x.settled ++ settled_maps s.layout n)) b = ap (λ (xs : List ℕ). uses xs b) (claims_split s.layout n) in
+    let first = uses_append names (page_blocks x.settled ++ settled_maps s.layout n) b in
+    let second = uses_append (page_blocks x.settled) (settled_maps s.layout n) b in
+    let has = uses_append names (page_blocks x.present ++ ms) b in
+    let parts = uses_append (page_blocks x.present) ms b in
+    let pages = part_uses x.settled x.present (settled_part s is n) b in
+    let maps = take_uses (maps_for (settled_at s.layout n)) ms b in
+    omega (arith, said, first, second, has, parts, pages, maps)
 
 -- ---- the inode that has a block claims it
 
@@ -153,8 +146,8 @@ module _ (s : State) (is : IsLaidOut s) where
   abbrev l : Layout
   l = s.layout
 
-  claimed_uses : (n b : ℕ) → uses (claimed_blocks (claimed_at l n)) b ≡ uses (owned l n) b
-  claimed_uses n b = ap (λ (bs : List ℕ). uses bs b) (claims_owned s is n)
+  claimed_uses : (n b : ℕ) → uses (claimed_blocks (claimed_at l n)) b ≤ uses (owned l n) b
+  claimed_uses = claims_owned s is
 
   -- where nobody has the block twice, a claim is found
   pub claim_here : (n : ℕ) (pre post : List Claimed) (d : Claimed) → claimed_at l n ≡ pre ++ d ∷ post → claim_of l d.block ≡ Some (claim_by n d)
@@ -199,16 +192,23 @@ module _ (s : State) (is : IsLaidOut s) where
       (ap (λ (cs : List Claimed). names ++ (pages ++ cs)) parts.2 ∙ ap (λ (cs : List Claimed). names ++ cs) (sym (append_assoc pages parts.0 (c ∷ parts.1)))
       ∙ sym (append_assoc names (pages ++ parts.0) (c ∷ parts.1)))
 
-  some_or : (a c : Option Claim) → is_some (or_claim a c) ≡ (is_some a || is_some c)
-  some_or None c = refl
-  some_or (Some x) c = refl
+some_or : (a c : Option Claim) → is_some (or_claim a c) ≡ (is_some a || is_some c)
+some_or None c = refl
+some_or (Some x) c = refl
 
+-- where nothing is held, all blocks are claimed
+pub claims_whole : (l : Layout) (n : ℕ) → IsOnDevice l n → claimed_blocks (claimed_at l n) ≡ owned l n
+claims_whole l n is =
+    let all : settled_maps l n ≡ maps_at l n = ap (λ (k : ℕ). take k (maps_at l n)) is.maps ∙ take-length (maps_at l n) in
+    claims_split l n ∙ (λ i. block_numbers (blocks_at l n) ++ (is.pages i ++ all i))
+
+module _ (l : Layout) (is : (n : ℕ) → IsOnDevice l n) where
   owned_below : (b n : ℕ) → is_some (claim_below l b n) ≡ is_owned_below l b n
   unfolding claim_below is_owned_below
   owned_below b zero = refl
   owned_below b (suc n) =
       some_or (claim_among n b (claimed_at l n)) (claim_below l b n)
-      ∙ (λ i. (claimed n b (claimed_at l n) ∙ ap (λ (bs : List ℕ). among bs b) (claims_owned s is n)) i || owned_below b n i)
+      ∙ (λ i. (claimed n b (claimed_at l n) ∙ ap (λ (bs : List ℕ). among bs b) (claims_whole l n (is n))) i || owned_below b n i)
 
   pub owned_law : (b : ℕ) → is_some (claim_of l b) ≡ is_owned l b
   owned_law b = owned_below b (128 * l.units)

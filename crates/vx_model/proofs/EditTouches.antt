@@ -16,7 +16,7 @@ use Rattle.vx_extents.specs.Extents.{stretches}
 use Rattle.vx_space.specs.Space.{page_blocks, maps_for}
 use Rattle.vx_model.specs.Outcome.{Maybe}
 use Rattle.vx_model.specs.Tree.{Node, Directory, IsDirectory, Entries}
-use Rattle.vx_model.specs.Layout.{DirectoryBlock, Layout, Claim, Claimed, volume, blocks_at, space_at, maps_at, block_numbers, owned, settled_at, chain_of, chain_at, claim_of, with_blocks, with_last, with_entry, room_place, add_entry, given_up, released, without_name}
+use Rattle.vx_model.specs.Layout.{DirectoryBlock, Layout, Claim, Claimed, volume, blocks_at, space_at, maps_at, block_numbers, owned, settled_at, chain_of, chain_at, claim_of, with_blocks, with_last, with_entry, room_place, given_up, released, without_name}
 use Rattle.vx_model.specs.State.{State}
 use Rattle.vx_model.specs.Walks.{directory_at}
 use Rattle.vx_model.specs.Edits.{with_nodes, add_name, remove_name_in, remove_name, set_node, drop_node}
@@ -25,10 +25,10 @@ use Rattle.vx_model.specs.Images.{among}
 use Rattle.vx_model.specs.Contents.{settled_of, inode_for, inode_value, parsed_of}
 use Rattle.vx_model.specs.LaidOut.{IsDirectoryOf, IsLaidOut}
 use Rattle.vx_model.specs.Touching.{BlockPlace, Touched, IsTouched, has_place, joined, untouched, inode_touched, entries_touched, unit_of, units_of, new_blocks, name_touched, IsOnlyIn, drop_touched}
-use Rattle.vx_model.proofs.BlockClaims.{HasSame, IsWhole, not_first, numbers_claimed, whole_claims, used_same, claims_same, same_length, same_chain, same_claimed, same_held}
-use Rattle.vx_model.proofs.EditKeeps.{IsSameAt, same_at, node_held, nothing_whole, laid_whole, here, elsewhere, others_same, same_numbers, removed_other, freed_others, freed_nothing, nothing_blocks, gives_all}
+use Rattle.vx_model.proofs.BlockClaims.{HasSame, IsWhole, not_first, numbers_claimed, given_claims, whole_claims, used_same, claims_same, same_length, same_chain, same_claimed, same_held}
+use Rattle.vx_model.proofs.EditKeeps.{IsSameAt, same_at, node_held, nothing_whole, directory_whole, here, elsewhere, others_same, same_numbers, removed_other, freed_others, freed_nothing, nothing_blocks}
 use Rattle.vx_model.proofs.NameEdits.{filled_is, nowhere, Grown, directory_there, entry_added, name_added}
-use Rattle.vx_model.proofs.NameKeeps.{extent_size, without_numbers, named, next, last, blocks, new, blocks_now, maps_now, grown_whole}
+use Rattle.vx_model.proofs.NameKeeps.{without_numbers, named, next, last, blocks, new, blocks_now, maps_now, grown_whole}
 
 -- ---- units
 
@@ -145,24 +145,24 @@ front_block [] x d (suc j) ne h = absurd cc
 front_block (y ∷ ds) x d zero ne h = h
 front_block (y ∷ ds) x d (suc j) ne h = front_block ds x d j (λ e. ne (ap suc e)) h
 
-module _ (s : State) (at : ℕ) (e : DirEntry) (after : Layout) (d : Directory) (is : IsDirectoryOf s.layout at d) (whole : IsWhole s.layout at) (g : Grown s.layout 8 at e after) where
+module _ (s : State) (first at : ℕ) (e : DirEntry) (after : Layout) (d : Directory) (is : IsDirectoryOf s.layout at d) (whole : IsWhole s.layout at) (g : Grown s.layout first at e after) where
   abbrev grown : State
   grown = named s at e.ino e.name d (with_last s.layout at e g.filling)
 
   others_stay : (n : ℕ) → n ≢ at → IsSameAt s.layout grown.layout n
-  others_stay n ne = others_same s.layout at (blocks s.layout at d e after is g) grown.layout.maps (λ k other. elsewhere k at g.filling.maps (s.layout.maps k) other) n ne
+  others_stay n ne = others_same s.layout at (blocks s.layout first at d e after is g) grown.layout.maps (λ k other. elsewhere k at g.filling.maps (s.layout.maps k) other) n ne
 
-  numbers_now : block_numbers (blocks_at grown.layout at) ≡ block_numbers (blocks_at s.layout at) ++ (last s.layout at d e after is g).block ∷ []
-  numbers_now = ap block_numbers (blocks_now s.layout at d e after is g) ∙ map-append (λ (x : DirectoryBlock). x.block) (blocks_at s.layout at) (last s.layout at d e after is g ∷ [])
+  numbers_now : block_numbers (blocks_at grown.layout at) ≡ block_numbers (blocks_at s.layout at) ++ (last s.layout first at d e after is g).block ∷ []
+  numbers_now = ap block_numbers (blocks_now s.layout first at d e after is g) ∙ map-append (λ (x : DirectoryBlock). x.block) (blocks_at s.layout at) (last s.layout first at d e after is g ∷ [])
 
-  maps_are : maps_at grown.layout at ≡ maps_at s.layout at ++ (next s.layout at d e after is g).more
-  maps_are = maps_now s.layout at d e after is g ∙ (next s.layout at d e after is g).maps
+  maps_are : maps_at grown.layout at ≡ maps_at s.layout at ++ (next s.layout first at d e after is g).more
+  maps_are = maps_now s.layout first at d e after is g ∙ (next s.layout first at d e after is g).maps
 
-  new_are : new_blocks s grown at ≡ ((last s.layout at d e after is g).block ∷ []) ++ (next s.layout at d e after is g).more
+  new_are : new_blocks s grown at ≡ ((last s.layout first at d e after is g).block ∷ []) ++ (next s.layout first at d e after is g).more
   new_are =
       let ns : List ℕ = block_numbers (blocks_at s.layout at) in
-      let x : List ℕ = (last s.layout at d e after is g).block ∷ [] in
-      let more : List ℕ = (next s.layout at d e after is g).more in
+      let x : List ℕ = (last s.layout first at d e after is g).block ∷ [] in
+      let more : List ℕ = (next s.layout first at d e after is g).more in
       let a : drop (length (blocks_at s.layout at)) (block_numbers (blocks_at grown.layout at)) ≡ x =
       ap (drop (length (blocks_at s.layout at))) numbers_now ∙ drop_at ns x (length (blocks_at s.layout at)) (length-map (blocks_at s.layout at) (λ (y : DirectoryBlock). y.block)) in
       let b : drop (length (maps_at s.layout at)) (maps_at grown.layout at) ≡ more = ap (drop (length (maps_at s.layout at))) maps_are ∙ drop_at (maps_at s.layout at) more (length (maps_at s.layout at)) refl in
@@ -172,16 +172,16 @@ module _ (s : State) (at : ℕ) (e : DirEntry) (after : Layout) (d : Directory) 
   claimed_here : (b : ℕ) → among (new_blocks s grown at) b ≡ false → among (numbers_claimed grown.layout at) b ≡ among (numbers_claimed s.layout at) b
   claimed_here b h =
       let ns : List ℕ = block_numbers (blocks_at s.layout at) in
-      let x : List ℕ = (last s.layout at d e after is g).block ∷ [] in
+      let x : List ℕ = (last s.layout first at d e after is g).block ∷ [] in
       let ps : List ℕ = page_blocks (space_at s.layout at).present in
       let ms : List ℕ = maps_at s.layout at in
-      let more : List ℕ = (next s.layout at d e after is g).more in
+      let more : List ℕ = (next s.layout first at d e after is g).more in
       let two = neither_in x more b (sym (ap (λ (xs : List ℕ). among xs b) new_are) ∙ h) in
       let parts : owned grown.layout at ≡ (ns ++ x) ++ (ps ++ (ms ++ more)) = (λ i. numbers_now i ++ (ps ++ maps_are i)) in
       let rest : among (ps ++ (ms ++ more)) b ≡ among (ps ++ ms) b = among_append ps (ms ++ more) b ∙ ap (λ t. among ps b || t) (among_front ms more b two.1) ∙ sym (among_append ps ms b) in
-      let first = among_front ns x b two.0 in
-      ap (λ (xs : List ℕ). among xs b) (whole_claims grown.layout at (grown_whole s.layout at d e after is g) ∙ parts)
-      ∙ among_append (ns ++ x) (ps ++ (ms ++ more)) b ∙ (λ i. first i || rest i) ∙ sym (among_append ns (ps ++ ms) b)
+      let begins = among_front ns x b two.0 in
+      ap (λ (xs : List ℕ). among xs b) (whole_claims grown.layout at (grown_whole s.layout first at d e after is g) ∙ parts)
+      ∙ among_append (ns ++ x) (ps ++ (ms ++ more)) b ∙ (λ i. begins i || rest i) ∙ sym (among_append ns (ps ++ ms) b)
       ∙ ap (λ (xs : List ℕ). among xs b) (sym (whole_claims s.layout at whole))
 
   grown_next : IsTouched s grown (next_touched s grown at e)
@@ -191,8 +191,8 @@ module _ (s : State) (at : ℕ) (e : DirEntry) (after : Layout) (d : Directory) 
     blocks = λ n j b h stands. elim (cases_eq n at) [
       | inl same ↦
           subst (λ (k : ℕ). slice_get (blocks_at s.layout k) j ≡ Some b) (sym same)
-          (front_block (blocks_at s.layout at) (last s.layout at d e after is g) b j (λ f. not_there n j at (room_place (blocks_at s.layout at) e) h same (f ∙ sym (nowhere (blocks_at s.layout at) e g.full)))
-          (sym (ap (λ (ds : List DirectoryBlock). slice_get ds j) (blocks_now s.layout at d e after is g)) ∙ subst (λ (k : ℕ). slice_get (blocks_at grown.layout k) j ≡ Some b) same stands))
+          (front_block (blocks_at s.layout at) (last s.layout first at d e after is g) b j (λ f. not_there n j at (room_place (blocks_at s.layout at) e) h same (f ∙ sym (nowhere (blocks_at s.layout at) e g.full)))
+          (sym (ap (λ (ds : List DirectoryBlock). slice_get ds j) (blocks_now s.layout first at d e after is g)) ∙ subst (λ (k : ℕ). slice_get (blocks_at grown.layout k) j ≡ Some b) same stands))
       | inr ne ↦ block_was s.layout grown.layout n j b (others_stay n ne) stands
     ];
     maps = λ n k c h stands. chain_was s.layout grown.layout n k c (same_at s.layout grown.layout n (others_stay n (not_first n at [] h))) stands;
@@ -208,7 +208,7 @@ module _ (s : State) (at : ℕ) (e : DirEntry) (after : Layout) (d : Directory) 
   grown_touches : IsNameTouched s at e grown
   grown_touches =
       let longer : length (blocks_at grown.layout at) ≡ length (blocks_at s.layout at) + 1 =
-      ap (λ (ds : List DirectoryBlock). length ds) (blocks_now s.layout at d e after is g) ∙ length-append (blocks_at s.layout at) (last s.layout at d e after is g ∷ []) in
+      ap (λ (ds : List DirectoryBlock). length ds) (blocks_now s.layout first at d e after is g) ∙ length-append (blocks_at s.layout at) (last s.layout first at d e after is g ∷ []) in
       by_length s grown at e false (ne_eqb _ _ (λ f. omega (arith, f, longer))) grown_next
 
 pub added_touches : (s new : State) (at ino : ℕ) (name : FileName) → IsLaidOut s → add_name s at name ino ≡ Ok new → IsTouched s new (name_touched s new at (record { ino = ino; name = name }))
@@ -216,10 +216,10 @@ added_touches s new at ino name is h =
     let a = name_added s new at ino name h in
     let e : DirEntry = record { ino = ino; name = name } in
     let held = node_held s is at (IsDirectory a.directory) a.is_directory in
-    let grows = entry_added s.layout a.layout 8 at e (subst (λ (n : ℕ). add_entry s.layout n at e ≡ Ok a.layout) (extent_size s is) a.added) in
+    let grows = entry_added s.layout a.layout s.tree.tunables.initial_extent_size at e a.added in
     subst (IsNameTouched s at e) (sym a.state) (elim grows [
       | inl f ↦ subst (λ (l : Layout). IsNameTouched s at e (named s at ino name a.directory l)) (sym f.layout) (filled_touches s at e a.directory f.blocks a.is_directory f.filled)
-      | inr g ↦ subst (λ (l : Layout). IsNameTouched s at e (named s at ino name a.directory l)) (sym g.layout) (grown_touches s at e a.layout a.directory held.0 (laid_whole s is at) g)
+      | inr g ↦ subst (λ (l : Layout). IsNameTouched s at e (named s at ino name a.directory l)) (sym g.layout) (grown_touches s s.tree.tunables.initial_extent_size at e a.layout a.directory held.0 (directory_whole s.layout at a.directory held.0) g)
     ])
 
 -- ---- a name less
@@ -260,7 +260,7 @@ take_none : (k : ℕ) → ◌≡◌ {A = List ℕ} (take k []) []
 take_none zero = refl
 take_none (suc k) = refl
 
-module _ (s : State) (place ino : ℕ) (is : IsLaidOut s) where
+module _ (s : State) (place ino : ℕ) where
   abbrev gone : State
   gone = drop_node s place ino
 
@@ -272,9 +272,8 @@ module _ (s : State) (place ino : ℕ) (is : IsLaidOut s) where
 
   no_claim : (b : ℕ) → among (given_up s.layout ino) b ≡ false → among (numbers_claimed gone.layout ino) b ≡ among (numbers_claimed s.layout ino) b
   no_claim b h =
-      let whole = laid_whole s is ino in
       ap (λ (xs : List ℕ). among xs b) (whole_claims gone.layout ino (nothing_whole gone.layout ino (freed_nothing s.layout place ino)) ∙ (freed_nothing s.layout place ino).none)
-      ∙ sym (ap (λ (xs : List ℕ). among xs b) (whole_claims s.layout ino whole ∙ sym (gives_all s.layout ino whole)) ∙ h)
+      ∙ sym (given_claims s.layout ino b h)
 
   pub dropped_touches : IsTouched s gone (drop_touched s ino)
   dropped_touches = record {

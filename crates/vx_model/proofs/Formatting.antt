@@ -14,14 +14,14 @@ use Rattle.vx_layout.specs.Bits.{bits_bytes}
 use Rattle.vx_layout.specs.Inodes.{slot_bytes}
 use Rattle.vx_layout.proofs.Standing.{place_is}
 use Rattle.vx_model.specs.Legal.{IfThere}
-use Rattle.vx_model.specs.Tree.{Node, new_directory, empty_root}
+use Rattle.vx_model.specs.Tree.{Node, IsFile, File, Opened, handle_cmp, new_directory, empty_root}
 use Rattle.vx_model.specs.Layout.{Claim, volume, claim_below, claim_of}
 use Rattle.vx_model.specs.State.{State, fresh_of}
 use Rattle.vx_sound.specs.Reading.{Form, form_bytes, used_in}
 use Rattle.vx_model.specs.Images.{Parsed, content, Stands}
 use Rattle.vx_model.specs.Reads.{ImageReadsAs}
 use Rattle.vx_model.specs.Contents.{Held, inode_for, parsed_of, fresh_root, unit_bytes, IsFormatted}
-use Rattle.vx_model.specs.LaidOut.{IsHeld, IsDirectoryNode, IsLaidOut}
+use Rattle.vx_model.specs.LaidOut.{IsHeld, IsDirectoryNode, IsFileNode, IsLaidOut, IsPlain}
 
 module _ (w : Super) (limit sectors : ℕ) where
   abbrev new : State
@@ -57,11 +57,25 @@ module _ (w : Super) (limit sectors : ℕ) where
       low = λ n b has. absurd cc;
     };
     has_root = subst (λ (o : Option Node). IfThere o IsDirectoryNode) (sym root_node) tt;
+    handles = λ key. subst (λ (x : Option Opened). IfSome x (λ (o : Opened). IfThere (map.get new.tree.nodes o.ino) IsFileNode)) (sym (map.get-empty handle_cmp key)) tt;
+    tunables = record { some = lit≤ tt; few = lit≤ tt };
     units = is.units_low;
     units_limit = is.units_high;
     log_blocks = is.log_high;
     limit = one;
     room = room;
+  }
+
+  no_file : (n : ℕ) (o : Option Node) (f : File) → (n ≡ 2 → o ≡ Some (new_directory 493)) → (n ≢ 2 → o ≡ None) → o ≡ Some (IsFile f) → ⊥
+  no_file n o f here other is = elim (cases_eq n 2) [
+    | inl e ↦ absurd (let no : ◌≡◌ {A = Option Node} (Some (new_directory 493)) (Some (IsFile f)) = sym (here e) ∙ is in cc)
+    | inr ne ↦ absurd (let no : ◌≡◌ {A = Option Node} None (Some (IsFile f)) = sym (other ne) ∙ is in cc)
+  ]
+
+  -- no file is there
+  pub fresh_plain : IsPlain new
+  fresh_plain = record {
+    files = λ n f there. absurd (no_file n (map.get new.tree.nodes n) f (λ e. ap (map.get new.tree.nodes) e ∙ root_node) (no_node n) there);
     rest = refl;
   }
 
@@ -183,11 +197,11 @@ module _ (w : Super) (limit sectors : ℕ) (is_super : IsSuper w) (image : ℕ �
   pub fresh_stands : Stands v p image
   fresh_stands s = holds s (place_of v s) (spare v s) (place_is v s (record { some = lit< tt; even = refl }))
 
--- what an image that says a state reads as
+-- what an image that says a state without bytes reads as
 abbrev pub StateReads : Type 0
-StateReads = (s : State) (image : ℕ → List ℕ) → IsLaidOut s → Stands (volume s.layout) (parsed_of s) image → ImageReadsAs (volume s.layout) image s.tree
+StateReads = (s : State) (image : ℕ → List ℕ) → IsLaidOut s → IsPlain s → Stands (volume s.layout) (parsed_of s) image → ImageReadsAs (volume s.layout) image s.tree
 
 pub fresh_reads : StateReads → (w : Super) (image : ℕ → List ℕ) → IsSuper w → IsFormatted (volume_of w) image → ImageReadsAs (volume_of w) image empty_root
 fresh_reads reads w image is formatted =
     let sectors : ℕ = sectors_of (volume_of w) in
-    reads (fresh_of w 1 sectors) image (fresh_laid w 1 sectors is (lit≤ tt) (omega arith)) (fresh_stands w 1 sectors is image formatted)
+    reads (fresh_of w 1 sectors) image (fresh_laid w 1 sectors is (lit≤ tt) (omega arith)) (fresh_plain w 1 sectors) (fresh_stands w 1 sectors is image formatted)

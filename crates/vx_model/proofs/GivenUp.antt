@@ -1,5 +1,5 @@
 -- A block that held metadata waits before it may hold bytes.
-use Rattle.std.proofs.Common.{rules, ◌≡◌, ◌≢◌, ℕ, zero, suc, ◌-◌, ◌*◌, Bool, true, false, cond, List, [], ◌∷◌, ◌++◌, map, length, Option, Some, None, Ok, Err, refl, sym, ap, subst, ◌∙◌, inl, inr}
+use Rattle.std.proofs.Common.{rules, ◌≡◌, ℕ, ◌-◌, ◌*◌, Bool, true, false, cond, List, [], ◌∷◌, ◌++◌, map, length, Option, Some, None, Ok, Err, refl, sym, ap, subst, ◌∙◌, inl, inr}
 use Rattle.std.specs.Prelude.{◌⊎◌, ◌+◌, ◌<◌, ◌||◌, IfSome, IsTrue, ◌==◌, is_none, nat_le, nat_lt}
 use Rattle.std.specs.FinMap as map
 use Rattle.std.proofs.lemmas.Bool.{eqb-true, ltb-true}
@@ -14,13 +14,13 @@ use Rattle.vx_space.specs.Space.{page_blocks}
 use Rattle.vx_space.specs.Placing.{Filling}
 use Rattle.vx_model.specs.Outcome.{Maybe, ◌>>=◌}
 use Rattle.vx_model.specs.Tree.{Tree, Node, File, Directory, IsFile, IsDirectory}
-use Rattle.vx_model.specs.Layout.{DirectoryBlock, Layout, volume, blocks_at, block_numbers, maps_at, space_at, pages_from, settled_at, has_room, behind, with_entry, with_blocks, block_of_page, next_block, with_last, with_new_block, filled_or_new, add_entry, without_name, pended, given_up, freed, kept_pending, released}
+use Rattle.vx_model.specs.Layout.{DirectoryBlock, Layout, volume, blocks_at, block_numbers, maps_at, space_at, pages_from, settled_at, has_room, behind, with_entry, with_blocks, block_of_page, next_block, with_last, with_new_block, filled_or_new, add_entry, without_name, pended, given_up, freed, kept_pending}
 use Rattle.vx_model.specs.State.{State, Done, settled}
 use Rattle.vx_model.specs.Walks.{directory_at, file_at}
 use Rattle.vx_model.specs.Edits.{with_nodes, with_name, add_name, add_name_in, remove_name, remove_name_in, set_node, drop_node}
 use Rattle.vx_model.specs.Entering.{Entry}
 use Rattle.vx_model.specs.Making.{make_as, create, mkdir}
-use Rattle.vx_model.specs.Removing.{fine, unlinked, unlink_file, unlink, remove_empty, rmdir}
+use Rattle.vx_model.specs.Removing.{fine, is_last, unlinked, unlink_file, unlink, remove_empty, rmdir}
 use Rattle.vx_model.specs.Linking.{most_links, link_in, link}
 use Rattle.vx_model.specs.Moving.{Move, enter, cleared, replace_directory, replace_file, replace_by, move_onto, rename}
 use Rattle.vx_model.specs.Naming.{list, stat, chmod}
@@ -241,12 +241,12 @@ module _ (s : State) (place : ℕ) where
       where_holds (nat_lt ino (128 * s.layout.units)) (no.NoInodes (128 * s.layout.units - 2)) _ (DoneWaits place s)
       (add_then s at ino name _ (waits_same place s s refl) (λ named w. waits_next place s named (set_node named ino node) w (set_waits place named ino node)))
 
-  unlinked_by : (b : State) (ino : ℕ) (f : File) (t : Bool) → Waits place s b → Waits place s (cond t (drop_node b place ino) (set_node b ino (IsFile (record f { nlink = f.nlink - 1 }))))
+  unlinked_by : (b : State) (ino : ℕ) (f : File) (last : Bool) → Waits place s b → Waits place s (unlinked b place ino last f)
   unlinked_by b ino f true w = waits_next place s b (drop_node b place ino) w (drop_waits place b ino)
   unlinked_by b ino f false w = waits_next place s b (set_node b ino (IsFile (record f { nlink = f.nlink - 1 }))) w (set_waits place b ino (IsFile (record f { nlink = f.nlink - 1 })))
 
   unlink_waits : (e : Entry) (f : File) → Always (unlink_file s place e f) (DoneWaits place s)
-  unlink_waits e f = unlinked_by (remove_name s e.at e.name) e.ino f (nat_le f.nlink 1) (remove_waits place s e.at e.name)
+  unlink_waits e f = unlinked_by (remove_name s e.at e.name) e.ino f (is_last s.tree e.ino f) (remove_waits place s e.at e.name)
 
   empty_waits : (e : Entry) (d : Directory) → Always (remove_empty s place e d) (DoneWaits place s)
   empty_waits e d =
@@ -274,7 +274,7 @@ module _ (s : State) (place : ℕ) where
       (enter_waits (drop_node (cleared s m) place target) m (waits_next place s (cleared s m) (drop_node (cleared s m) place target) (cleared_waits m) (drop_waits place (cleared s m) target))))
   replace_waits m target (IsFile f) =
       bind_always (file_at s.tree.nodes target) (replace_file s place m target) (DoneWaits place s) (λ there.
-      enter_waits (unlinked (cleared s m) place target there) m (unlinked_by (cleared s m) target there (nat_le there.nlink 1) (cleared_waits m)))
+      enter_waits (unlinked (cleared s m) place target (is_last s.tree target there) there) m (unlinked_by (cleared s m) target there (is_last s.tree target there) (cleared_waits m)))
 
   onto_by : (m : Move) (target : ℕ) (t : Bool) → Always (cond t (Ok (fine s)) (replace_by s place m target m.node)) (DoneWaits place s)
   onto_by m target true = waits_same place s s refl

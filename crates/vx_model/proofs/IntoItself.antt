@@ -1,5 +1,5 @@
 -- When a rename is refused as one into itself.
-use Rattle.std.proofs.Common.{◌≡◌, ℕ, zero, suc, ◌+◌, ◌-◌, ◌*◌, Bool, true, false, cond, List, [], ◌∷◌, ◌++◌, length, Option, Some, None, Ok, Err, refl, sym, ap, subst, ◌∙◌}
+use Rattle.std.proofs.Common.{◌≡◌, ℕ, zero, suc, ◌+◌, ◌-◌, ◌*◌, Bool, true, false, cond, List, [], ◌∷◌, ◌++◌, length, Option, Some, None, Ok, Err, refl, sym, ap, ◌∙◌}
 use Rattle.std.specs.Prelude.{◌==◌, ◌&&◌, not, nat_le, bytes_eq}
 use Rattle.std.specs.FinMap as map
 use Rattle.std.proofs.lemmas.Bool.{and_parts}
@@ -11,7 +11,6 @@ use Rattle.vx_base.specs.declared.call.Call.TheVariants as call
 use Rattle.vx_base.specs.declared.inode.DirEntry.{DirEntry}
 use Rattle.vx_base.specs.declared.refusal.Refusal.{Refusal}
 use Rattle.vx_base.specs.declared.refusal.Refusal.TheVariants as no
-use Rattle.vx_base.specs.declared.reply.Reply.{Reply}
 use Rattle.vx_base.specs.declared.reply.Reply.TheVariants as say
 use Rattle.vx_base.specs.declared.kind.Kind.{Kind}
 use Rattle.vx_base.specs.declared.kind.Kind.TheVariants.{Data}
@@ -19,17 +18,17 @@ use Rattle.vx_extents.specs.Extents.{mapped_at}
 use Rattle.vx_space.specs.Space.{Space, no_space, extents_in, maps_needed, most_extents}
 use Rattle.vx_space.specs.Placing.{Filling, Request, each_page, group_length, place_chain, place_group, place_maps, place_missing, place_page, takes_group, with_data, write_page}
 use Rattle.vx_model.specs.Outcome.{Maybe, unless, ◌>>=◌, need}
-use Rattle.vx_model.specs.Tree.{Nodes, Node, File, Directory, IsFile, IsDirectory}
-use Rattle.vx_model.specs.Layout.{Layout, DirectoryBlock, blocks_at, add_entry, filled_or_new, with_entry, with_last, with_new_block, directory_filling, directory_request, next_block}
+use Rattle.vx_model.specs.Tree.{Nodes, Node, Directory, IsFile, IsDirectory}
+use Rattle.vx_model.specs.Layout.{Layout, DirectoryBlock, blocks_at, add_entry, filled_or_new, with_entry, with_last, directory_filling, directory_request, next_block}
 use Rattle.vx_model.specs.State.{State, Done, settled}
 use Rattle.vx_model.specs.Paths.{PathEnd, path_end_from, path_end}
 use Rattle.vx_model.specs.Walks.{root, walk, names_of, node_at, directory_at, file_at, as_directory, as_file, step_to}
 use Rattle.vx_model.specs.Entering.{Entry, entry_in, entry_at, entry_end}
 use Rattle.vx_model.specs.Edits.{with_nodes, with_name, add_name, add_name_in, remove_name, drop_node}
-use Rattle.vx_model.specs.Removing.{fine, unlinked}
+use Rattle.vx_model.specs.Removing.{fine, is_last, unlinked}
 use Rattle.vx_model.specs.Moving.{begins_with, is_below, is_directory, Move, enter, cleared, replace_directory, replace_file, replace_by, move_onto, move_into, move_node, move_to, move_entry, move_ends, rename_along, rename}
 use Rattle.vx_model.specs.Step.{step}
-use Rattle.vx_model.specs.NameLaws.{meaning_in, lookup, HasLinks, GoesIntoItself}
+use Rattle.vx_model.specs.NameLaws.{meaning_in, HasLinks, GoesIntoItself}
 use Rattle.vx_model.proofs.Lookups.{walk_first, walk_append, directory_ok, at_directory, leads_to}
 use Rattle.vx_model.proofs.Successes.{Enters, enters}
 use Rattle.vx_model.proofs.Chains.{always_ok, need_ok}
@@ -153,7 +152,7 @@ module _ (s : State) (place : ℕ) (m : Move) where
   spares_replace target (IsDirectory moved) = spares_bind (directory_at s.tree.nodes target) (replace_directory s place m target) (spares_directory s.tree.nodes target)
       (λ d. spares_unless (map.len d.entries == 0) no.NotEmpty (enter (drop_node (cleared s m) place target) m) refl (spares_enter (drop_node (cleared s m) place target) m))
   spares_replace target (IsFile moved) = spares_bind (file_at s.tree.nodes target) (replace_file s place m target) (spares_file s.tree.nodes target)
-      (λ f. spares_enter (unlinked (cleared s m) place target f) m)
+      (λ f. spares_enter (unlinked (cleared s m) place target (is_last s.tree target f) f) m)
 
   spares_target : (target : ℕ) (t : Bool) → Spares (cond t (Ok (fine s)) (replace_by s place m target m.node))
   spares_target target true = tt

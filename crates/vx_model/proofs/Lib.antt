@@ -4,10 +4,12 @@ pub mod Batches
 pub mod Allowing
 pub mod Replaying
 pub mod Unused
+pub mod Handles
 pub mod Stretching
 pub mod Spelled
 pub mod SaidState
 pub mod StateReads
+pub mod SettledTrees
 pub mod SameReading
 pub mod Claims
 pub mod Formatting
@@ -15,6 +17,7 @@ pub mod TouchedBatch
 pub mod EditKeeps
 pub mod NameKeeps
 pub mod EditTouches
+pub mod PlainEdits
 pub mod BlockClaims
 pub mod Owning
 pub mod NextBlock

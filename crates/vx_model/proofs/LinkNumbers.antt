@@ -1,21 +1,22 @@
 -- Link numbers are the numbers of names, whatever is called.
 use Rattle.std.proofs.Common.{◌≡◌, ◌≢◌, ℕ, ◌+◌, ◌-◌, ◌*◌, ◌<◌, ◌≤◌, Bool, true, false, cond, List, Option, Some, None, Ok, refl, sym, ap, subst, ◌∙◌, arith, inl, inr}
-use Rattle.std.specs.Prelude.{◌==◌, nat_le}
+use Rattle.std.specs.Prelude.{◌==◌, nat_le, not}
 use Rattle.std.specs.Ordering.{nat_cmp}
 use Rattle.std.specs.Cmp.Lexicographic.{slice_cmp}
 use Rattle.std.specs.FinMap as map
-use Rattle.std.proofs.lemmas.Bool.{cases_eq, false_from_ne_true, eqb-true, leb-true}
+use Rattle.std.proofs.lemmas.Bool.{cases_eq, and_parts, false_from_ne_true, eqb-true, leb-true}
 use Rattle.vx_base.proofs.Maps.{at_key, at_other, put_twice}
 use Rattle.vx_base.specs.Paths.{FileName}
 use Rattle.vx_base.specs.declared.call.Call.{Call}
 use Rattle.vx_base.specs.declared.call.Call.TheVariants as call
 use Rattle.vx_base.specs.declared.event.Event.{Event}
-use Rattle.vx_model.specs.Tree.{Nodes, Node, File, Directory, IsFile, IsDirectory, lowest_unused, new_file, new_directory}
+use Rattle.vx_model.specs.Tree.{Tree, Nodes, Node, File, Directory, IsFile, IsDirectory, lowest_unused, new_file, new_directory}
+use Rattle.vx_model.specs.Handles.{is_open}
 use Rattle.vx_model.specs.State.{State, Done, fresh}
 use Rattle.vx_model.specs.Walks.{root}
-use Rattle.vx_model.specs.Edits.{with_name, add_name, remove_name, set_node, drop_node}
+use Rattle.vx_model.specs.Edits.{with_name, add_name, remove_name, drop_node}
 use Rattle.vx_model.specs.Making.{create, mkdir}
-use Rattle.vx_model.specs.Removing.{unlinked, unlink, rmdir}
+use Rattle.vx_model.specs.Removing.{is_last, unlinked, unlink, rmdir}
 use Rattle.vx_model.specs.Linking.{link}
 use Rattle.vx_model.specs.Moving.{Move, enter, cleared, rename}
 use Rattle.vx_model.specs.Naming.{with_mode, chmod}
@@ -102,24 +103,24 @@ linked_once : (nodes : Nodes) (n ino : ℕ) (extra : ℕ → ℕ) (o : Option No
 linked_once nodes n ino extra o is owes =
     some_owed (name_count nodes n ino) (one ino ino) (extra ino) (link_number ino o) (one_same ino) (owes.links ino ∙ ap (link_number ino) is)
 
-unlinked_by : (b : State) (place ino : ℕ) (f : File) (n : ℕ) (extra : ℕ → ℕ) (t : Bool) → nat_le f.nlink 1 ≡ t → map.get b.tree.nodes ino ≡ Some (IsFile f) → Owes b.tree.nodes n (λ i. one ino i + extra i)
-    → Owes (cond t (drop_node b place ino) (set_node b ino (IsFile (record f { nlink = f.nlink - 1 })))).tree.nodes n extra
-unlinked_by b place ino f n extra true is there o =
-    let few : f.nlink ≤ 1 = leb-true f.nlink 1 is in
+unlinked_by : (t : Tree) (b : State) (place ino : ℕ) (f : File) (n : ℕ) (extra : ℕ → ℕ) (last : Bool) → is_last t ino f ≡ last → map.get b.tree.nodes ino ≡ Some (IsFile f) → Owes b.tree.nodes n (λ i. one ino i + extra i)
+    → Owes (unlinked b place ino last f).tree.nodes n extra
+unlinked_by t b place ino f n extra true is there o =
+    let few : f.nlink ≤ 1 = leb-true f.nlink 1 (let both = and_parts (nat_le f.nlink 1) (not (is_open t ino)) is in both.0) in
     let some : 1 ≤ f.nlink = linked_once b.tree.nodes n ino extra (Some (IsFile f)) there o in
     let last : 0 + 1 ≡ f.nlink = omega arith in
     loses b.tree.nodes (map.remove b.tree.nodes ino) n ino extra (absent_relinked b.tree.nodes n ino (λ i. ap (names_in i) there))
     (ap (λ x. link_number ino x + 1) (node_gone b.tree.nodes ino) ∙ last ∙ sym (ap (link_number ino) there)) o
-unlinked_by b place ino f n extra false is there o =
+unlinked_by t b place ino f n extra false is there o =
     let node : Node = IsFile (record f { nlink = f.nlink - 1 }) in
     let some : 1 ≤ f.nlink = linked_once b.tree.nodes n ino extra (Some (IsFile f)) there o in
     let less : f.nlink - 1 + 1 ≡ f.nlink = omega arith in
     loses b.tree.nodes (map.insert b.tree.nodes ino node) n ino extra (set_relinked b.tree.nodes n ino node (o.low ino (IsFile f) there) (λ i. sym (ap (names_in i) there)))
     (ap (λ x. link_number ino x + 1) (at_key b.tree.nodes ino node) ∙ less ∙ sym (ap (link_number ino) there)) o
 
-unlinked_owes : (b : State) (place ino : ℕ) (f : File) (n : ℕ) (extra : ℕ → ℕ) → map.get b.tree.nodes ino ≡ Some (IsFile f) → Owes b.tree.nodes n (λ i. one ino i + extra i)
-    → Owes (unlinked b place ino f).tree.nodes n extra
-unlinked_owes b place ino f n extra there o = unlinked_by b place ino f n extra (nat_le f.nlink 1) refl there o
+unlinked_owes : (t : Tree) (b : State) (place ino : ℕ) (f : File) (n : ℕ) (extra : ℕ → ℕ) → map.get b.tree.nodes ino ≡ Some (IsFile f) → Owes b.tree.nodes n (λ i. one ino i + extra i)
+    → Owes (unlinked b place ino (is_last t ino f) f).tree.nodes n extra
+unlinked_owes t b place ino f n extra there o = unlinked_by t b place ino f n extra (is_last t ino f) refl there o
 
 only_one : (t : Bool) → 1 ≤ cond t 0 1 → 0 + 1 ≡ cond t 0 1
 only_one true h = absurd (omega arith)
@@ -173,7 +174,7 @@ module _ (s : State) (o : Owes s.tree.nodes (128 * s.layout.units) no_more) wher
       let b : State = remove_name s u.entry.at u.entry.name in
       let apart = not_leaf s.tree.nodes u.entry.at u.entry.name u.entry.ino u.entry.ino u.enters.means (file_leaf s.tree.nodes u.entry.ino u.file u.there) in
       subst (λ (x : Done). Owes x.state.tree.nodes bound no_more) (sym u.is)
-      (unlinked_owes b place u.entry.ino u.file bound no_more (remove_stays s u.entry.at u.entry.name u.entry.ino u.entry.ino u.enters.means apart ∙ u.there)
+      (unlinked_owes s.tree b place u.entry.ino u.file bound no_more (remove_stays s u.entry.at u.entry.name u.entry.ino u.entry.ino u.enters.means apart ∙ u.there)
       (remove_owes s u.entry.at u.entry.name u.entry.ino bound no_more u.enters.means o))
 
   rmdir_owes : (place : ℕ) (path : List ℕ) (done : Done) → rmdir s place path ≡ Ok done → Owes done.state.tree.nodes bound no_more
@@ -229,9 +230,9 @@ module _ (s : State) (o : Owes s.tree.nodes (128 * s.layout.units) no_more) wher
         (drop_owes (cleared s m) place target d bound (λ i. one m.from.ino i + no_more i) (cleared_stays target ne onto leaf ∙ there) empty (cleared_owes target ne onto leaf))
     onto_owes (file target f moved ne onto node there h) =
         let leaf = file_leaf s.tree.nodes target f there in
-        let less : State = unlinked (cleared s m) place target f in
-        enter_owes less m done bound no_more h (clears_target s m means target onto ne leaf less.tree.nodes (unlinked_touches (cleared s m) place target f) (IsFile f) there (unlinked_left (cleared s m) place target f)).free
-        (unlinked_owes (cleared s m) place target f bound (λ i. one m.from.ino i + no_more i) (cleared_stays target ne onto leaf ∙ there) (cleared_owes target ne onto leaf))
+        let less : State = unlinked (cleared s m) place target (is_last s.tree target f) f in
+        enter_owes less m done bound no_more h (clears_target s m means target onto ne leaf less.tree.nodes (unlinked_touches (cleared s m) place target (is_last s.tree target f) f) (IsFile f) there (unlinked_left s (cleared s m) place target f)).free
+        (unlinked_owes s.tree (cleared s m) place target f bound (λ i. one m.from.ino i + no_more i) (cleared_stays target ne onto leaf ∙ there) (cleared_owes target ne onto leaf))
 
   rename_owes : (place : ℕ) (old new : List ℕ) (done : Done) → rename s place old new ≡ Ok done → Owes done.state.tree.nodes bound no_more
   rename_owes place old new done h =

@@ -11,7 +11,7 @@ use Rattle.vx_base.specs.Paths.{FileName}
 use Rattle.vx_base.specs.declared.call.Call.{Call}
 use Rattle.vx_base.specs.declared.call.Call.TheVariants as call
 use Rattle.vx_base.specs.declared.event.Event.{Event}
-use Rattle.vx_model.specs.Tree.{Nodes, Node, Directory, IsFile, IsDirectory, lowest_unused, new_file, new_directory}
+use Rattle.vx_model.specs.Tree.{Tree, Nodes, Node, Directory, IsFile, IsDirectory, lowest_unused, new_file, new_directory}
 use Rattle.vx_model.specs.State.{State, Done, fresh}
 use Rattle.vx_model.specs.Walks.{root, walk}
 use Rattle.vx_model.specs.Edits.{add_name, remove_name}
@@ -135,14 +135,14 @@ named_one old new at ino name n q x y means =
       | inr other ↦ inl (sym (n.others q x other) ∙ means)
     ]
 
-removed_less : (old new : Nodes) (path : List ℕ) → IsRemoved old new path → (q : ℕ) (x : FileName) (y : ℕ) → lookup new q x ≡ Some y → lookup old q x ≡ Some y
+removed_less : (old : Tree) (new : Nodes) (path : List ℕ) → IsRemoved old new path → (q : ℕ) (x : FileName) (y : ℕ) → lookup new q x ≡ Some y → lookup old.nodes q x ≡ Some y
 removed_less old new path r q x y means =
     elim (cases_entry r.at r.name q x) [
       | inl here ↦ let c : None ≡ Some y = sym r.gone ∙ sym (ap (lookup new r.at) here.1) ∙ sym (ap (λ (k : ℕ). lookup new k x) here.0) ∙ means in absurd cc
       | inr other ↦ sym (r.others q x other) ∙ means
     ]
 
-clears_less : (old less : Nodes) (m : Move) → Clears old less m → (q : ℕ) (x : FileName) (y : ℕ) → lookup less q x ≡ Some y → lookup old q x ≡ Some y
+clears_less : (old : Tree) (less : Nodes) (m : Move) → Clears old less m → (q : ℕ) (x : FileName) (y : ℕ) → lookup less q x ≡ Some y → lookup old.nodes q x ≡ Some y
 clears_less old less m c q x y means =
     elim (cases_entry m.from.at m.from.name q x) [
       | inl here ↦ let e : None ≡ Some y = sym c.gone ∙ sym (ap (lookup less m.from.at) here.1) ∙ sym (ap (λ (k : ℕ). lookup less k x) here.0) ∙ means in absurd cc
@@ -237,7 +237,7 @@ module _ (s : State) (is : HasLinks s) (none : HasNoLoops s.tree.nodes) where
         let new : Nodes = e.0.tree.nodes in
         let n = added_named c.less e.0 r.move.to ino r.move.name e.1 in
         subst (λ (x : Done). HasNoLoops x.state.tree.nodes) (sym e.2)
-        (no_loop_more old new r.move.to ino (either_old old less new r.move.to ino (clears_less old less r.move c.clears) (named_one less new r.move.to ino r.move.name n)) none (apart_by r.move.node refl))
+        (no_loop_more old new r.move.to ino (either_old old less new r.move.to ino (clears_less s.tree less r.move c.clears) (named_one less new r.move.to ino r.move.name n)) none (apart_by r.move.node refl))
 
     rename_loops : HasNoLoops done.state.tree.nodes
     rename_loops =
@@ -254,9 +254,9 @@ module _ (s : State) (is : HasLinks s) (none : HasNoLoops s.tree.nodes) where
   step_loops place session (call.Mkdir path mode) done h =
       settled_keeps s Kept (mkdir s path mode) done none h (λ is. make_loops path (new_directory mode) done (blank_directory mode) (makes s path (new_directory mode) done is))
   step_loops place session (call.Unlink path) done h =
-      settled_keeps s Kept (unlink s place path) done none h (λ is. no_loop_less old done.state.tree.nodes (removed_less old done.state.tree.nodes path (unlinked_removes s place path done is)) none)
+      settled_keeps s Kept (unlink s place path) done none h (λ is. no_loop_less old done.state.tree.nodes (removed_less s.tree done.state.tree.nodes path (unlinked_removes s place path done is)) none)
   step_loops place session (call.Rmdir path) done h =
-      settled_keeps s Kept (rmdir s place path) done none h (λ is. no_loop_less old done.state.tree.nodes (removed_less old done.state.tree.nodes path (directory_removes s place path done is)) none)
+      settled_keeps s Kept (rmdir s place path) done none h (λ is. no_loop_less old done.state.tree.nodes (removed_less s.tree done.state.tree.nodes path (directory_removes s place path done is)) none)
   step_loops place session (call.Link from to) done h = settled_keeps s Kept (link s from to) done none h (λ is. link_loops from to done (links s from to done is))
   step_loops place session (call.Rename from to) done h = settled_keeps s Kept (rename s place from to) done none h (λ is. rename_loops place from to done (renames s place from to done is))
   step_loops place session (call.Chmod path mode) done h = settled_keeps s Kept (chmod s path mode) done none h (chmod_loops path mode done)

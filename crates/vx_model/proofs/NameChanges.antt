@@ -1,6 +1,6 @@
 -- What names mean after each call.
 use Rattle.std.proofs.Common.{◌≡◌, ◌≢◌, ℕ, Bool, true, false, cond, List, [], ◌∷◌, Option, Some, None, Ok, Err, refl, sym, ap, subst, ◌∙◌, inl, inr}
-use Rattle.std.specs.Prelude.{◌⊎◌, ◌-◌, nat_le}
+use Rattle.std.specs.Prelude.{◌⊎◌, ◌-◌}
 use Rattle.std.specs.FinMap as map
 use Rattle.std.proofs.lemmas.Bool.{cases_eq}
 use Rattle.std.specs.Ordering.{nat_cmp}
@@ -13,12 +13,12 @@ use Rattle.vx_base.specs.declared.refusal.Refusal.TheVariants as no
 use Rattle.vx_base.specs.declared.reply.Reply.{Reply}
 use Rattle.vx_base.specs.declared.reply.Reply.TheVariants as say
 use Rattle.vx_model.specs.Outcome.{Maybe, ◌>>=◌, need}
-use Rattle.vx_model.specs.Tree.{Nodes, Entries, Node, File, Directory, IsFile, IsDirectory, lowest_unused, new_file, new_directory}
+use Rattle.vx_model.specs.Tree.{Tree, Nodes, Entries, Node, File, Directory, IsFile, IsDirectory, lowest_unused, new_file, new_directory}
 use Rattle.vx_model.specs.State.{State, Done, settled}
 use Rattle.vx_model.specs.Walks.{root, walk, inode_of}
-use Rattle.vx_model.specs.Edits.{with_name, without_name, add_name, remove_name, remove_name_in, set_node, drop_node}
+use Rattle.vx_model.specs.Edits.{with_name, without_name, add_name, remove_name, remove_name_in, drop_node}
 use Rattle.vx_model.specs.Making.{create, mkdir}
-use Rattle.vx_model.specs.Removing.{fine, unlinked, unlink, rmdir}
+use Rattle.vx_model.specs.Removing.{fine, is_last, unlinked, unlink, rmdir}
 use Rattle.vx_model.specs.Moving.{Move, enter, cleared, rename}
 use Rattle.vx_model.specs.Step.{step}
 use Rattle.vx_model.specs.NameLaws.{meaning_in, lookup, IsOther, LeadsTo, IsCreated, with_name_less, StaysDirectory, IsRemoved, IsRenamed}
@@ -86,21 +86,18 @@ drop_touches nodes ino = record {
   others = λ n ne. node_stays nodes ino n ne;
 }
 
-unlinked_by : (b : State) (place ino : ℕ) (f : File) (t : Bool) → Touches b.tree.nodes (cond t (drop_node b place ino) (set_node b ino (IsFile (record f { nlink = f.nlink - 1 })))).tree.nodes ino
-unlinked_by b place ino f true = drop_touches b.tree.nodes ino
-unlinked_by b place ino f false = set_touches b.tree.nodes ino (IsFile (record f { nlink = f.nlink - 1 })) (λ x. refl)
+pub unlinked_touches : (b : State) (place ino : ℕ) (last : Bool) (f : File) → Touches b.tree.nodes (unlinked b place ino last f).tree.nodes ino
+unlinked_touches b place ino true f = drop_touches b.tree.nodes ino
+unlinked_touches b place ino false f = set_touches b.tree.nodes ino (IsFile (record f { nlink = f.nlink - 1 })) (λ x. refl)
 
-pub unlinked_touches : (b : State) (place ino : ℕ) (f : File) → Touches b.tree.nodes (unlinked b place ino f).tree.nodes ino
-unlinked_touches b place ino f = unlinked_by b place ino f (nat_le f.nlink 1)
-
-left_by : (b : State) (place ino : ℕ) (f : File) (t : Bool)
-    → map.get (cond t (drop_node b place ino) (set_node b ino (IsFile (record f { nlink = f.nlink - 1 })))).tree.nodes ino ≡ cond t None (Some (IsFile (record f { nlink = f.nlink - 1 })))
-left_by b place ino f true = node_gone b.tree.nodes ino
-left_by b place ino f false = at_key b.tree.nodes ino (IsFile (record f { nlink = f.nlink - 1 }))
+left_by : (b : State) (place ino : ℕ) (last : Bool) (f : File)
+    → map.get (unlinked b place ino last f).tree.nodes ino ≡ cond last None (Some (IsFile (record f { nlink = f.nlink - 1 })))
+left_by b place ino true f = node_gone b.tree.nodes ino
+left_by b place ino false f = at_key b.tree.nodes ino (IsFile (record f { nlink = f.nlink - 1 }))
 
 -- what an unlink leaves of the file
-pub unlinked_left : (b : State) (place ino : ℕ) (f : File) → map.get (unlinked b place ino f).tree.nodes ino ≡ with_name_less (IsFile f)
-unlinked_left b place ino f = left_by b place ino f (nat_le f.nlink 1)
+pub unlinked_left : (s b : State) (place ino : ℕ) (f : File) → map.get (unlinked b place ino (is_last s.tree ino f) f).tree.nodes ino ≡ with_name_less s.tree ino (IsFile f)
+unlinked_left s b place ino f = left_by b place ino (is_last s.tree ino f) f
 
 pub touches_same : (old new : Nodes) (ino : ℕ) → IsLeaf old ino → Touches old new ino → MeanSame old new
 touches_same old new ino leaf t q x =
@@ -158,7 +155,7 @@ walk_absent nodes at name d there none =
 
 module _ (s : State) (path : List ℕ) (at : ℕ) (name : FileName) (ino : ℕ) (leads : LeadsTo s.tree.nodes path at name) (means : lookup s.tree.nodes at name ≡ Some ino) (leaf : IsLeaf s.tree.nodes ino) where
   gone_with : (d : Directory) → map.get s.tree.nodes at ≡ Some (IsDirectory d) → (new : Nodes) → Touches (remove_name s at name).tree.nodes new ino → (node : Node) → map.get s.tree.nodes ino ≡ Some node
-      → map.get new ino ≡ with_name_less node → IsRemoved s.tree.nodes new path
+      → map.get new ino ≡ with_name_less s.tree ino node → IsRemoved s.tree new path
   gone_with d there new t node was left =
       let old : Nodes = s.tree.nodes in
       let less : Nodes = (remove_name s at name).tree.nodes in
@@ -187,29 +184,30 @@ module _ (s : State) (path : List ℕ) (at : ℕ) (name : FileName) (ino : ℕ) 
         others = others;
       }
 
-  pub gone : (new : Nodes) → Touches (remove_name s at name).tree.nodes new ino → (node : Node) → map.get s.tree.nodes ino ≡ Some node → map.get new ino ≡ with_name_less node → IsRemoved s.tree.nodes new path
+  pub gone : (new : Nodes) → Touches (remove_name s at name).tree.nodes new ino → (node : Node) → map.get s.tree.nodes ino ≡ Some node → map.get new ino ≡ with_name_less s.tree ino node → IsRemoved s.tree new path
   gone new t = let d = named_directory name ino (map.get s.tree.nodes at) means in gone_with d.0 d.1 new t
 
-pub unlinked_removes : (s : State) (place : ℕ) (path : List ℕ) (done : Done) → unlink s place path ≡ Ok done → IsRemoved s.tree.nodes done.state.tree.nodes path
+pub unlinked_removes : (s : State) (place : ℕ) (path : List ℕ) (done : Done) → unlink s place path ≡ Ok done → IsRemoved s.tree done.state.tree.nodes path
 unlinked_removes s place path done h =
     let u = unlinks s place path done h in
     let b : State = remove_name s u.entry.at u.entry.name in
-    subst (λ (x : Done). IsRemoved s.tree.nodes x.state.tree.nodes path) (sym u.is)
+    subst (λ (x : Done). IsRemoved s.tree x.state.tree.nodes path) (sym u.is)
     (gone s path u.entry.at u.entry.name u.entry.ino u.enters.leads u.enters.means (file_leaf s.tree.nodes u.entry.ino u.file u.there)
-    (unlinked b place u.entry.ino u.file).tree.nodes (unlinked_touches b place u.entry.ino u.file) (IsFile u.file) u.there (unlinked_left b place u.entry.ino u.file))
+    (unlinked b place u.entry.ino (is_last s.tree u.entry.ino u.file) u.file).tree.nodes (unlinked_touches b place u.entry.ino (is_last s.tree u.entry.ino u.file) u.file) (IsFile u.file) u.there
+    (unlinked_left s b place u.entry.ino u.file))
 
-pub unlink_removes : (s : State) (place session : ℕ) (path : List ℕ) (done : Done) → step s place session (call.Unlink path) ≡ Some done → done.reply ≡ say.Fine → IsRemoved s.tree.nodes done.state.tree.nodes path
+pub unlink_removes : (s : State) (place session : ℕ) (path : List ℕ) (done : Done) → step s place session (call.Unlink path) ≡ Some done → done.reply ≡ say.Fine → IsRemoved s.tree done.state.tree.nodes path
 unlink_removes s place session path done h reply = unlinked_removes s place path done (succeeded s (unlink s place path) done h (not_fine done.reply reply))
 
-pub directory_removes : (s : State) (place : ℕ) (path : List ℕ) (done : Done) → rmdir s place path ≡ Ok done → IsRemoved s.tree.nodes done.state.tree.nodes path
+pub directory_removes : (s : State) (place : ℕ) (path : List ℕ) (done : Done) → rmdir s place path ≡ Ok done → IsRemoved s.tree done.state.tree.nodes path
 directory_removes s place path done h =
     let u = removes_directory s place path done h in
     let b : State = remove_name s u.entry.at u.entry.name in
-    subst (λ (x : Done). IsRemoved s.tree.nodes x.state.tree.nodes path) (sym u.is)
+    subst (λ (x : Done). IsRemoved s.tree x.state.tree.nodes path) (sym u.is)
     (gone s path u.entry.at u.entry.name u.entry.ino u.enters.leads u.enters.means (empty_leaf s.tree.nodes u.entry.ino u.directory u.there u.empty)
     (drop_node b place u.entry.ino).tree.nodes (drop_touches b.tree.nodes u.entry.ino) (IsDirectory u.directory) u.there (node_gone b.tree.nodes u.entry.ino))
 
-pub rmdir_removes : (s : State) (place session : ℕ) (path : List ℕ) (done : Done) → step s place session (call.Rmdir path) ≡ Some done → done.reply ≡ say.Fine → IsRemoved s.tree.nodes done.state.tree.nodes path
+pub rmdir_removes : (s : State) (place session : ℕ) (path : List ℕ) (done : Done) → step s place session (call.Rmdir path) ≡ Some done → done.reply ≡ say.Fine → IsRemoved s.tree done.state.tree.nodes path
 rmdir_removes s place session path done h reply = directory_removes s place path done (succeeded s (rmdir s place path) done h (not_fine done.reply reply))
 
 -- ---- a name more
@@ -300,13 +298,13 @@ entered b m done h =
     (named.0, named.1, sym e)
 
 -- the old name means nothing, and neither does the new one so far
-pub record Clears (old less : Nodes) (m : Move) : Type 0 where
+pub record Clears (old : Tree) (less : Nodes) (m : Move) : Type 0 where
   pub gone : lookup less m.from.at m.from.name ≡ None
   pub free : lookup less m.to m.name ≡ None
-  pub others : (q : ℕ) (x : FileName) → IsOther m.from.at m.from.name q x → IsOther m.to m.name q x → lookup less q x ≡ lookup old q x
-  pub nodes : (n : ℕ) → n ≢ m.from.at → n ≢ m.to → lookup old m.to m.name ≢ Some n → map.get less n ≡ map.get old n
-  pub directories : (n : ℕ) → lookup old m.to m.name ≢ Some n → StaysDirectory old less n
-  pub replaced : (n : ℕ) (node : Node) → lookup old m.to m.name ≡ Some n → map.get old n ≡ Some node → (n ≢ m.to) × (map.get less n ≡ with_name_less node)
+  pub others : (q : ℕ) (x : FileName) → IsOther m.from.at m.from.name q x → IsOther m.to m.name q x → lookup less q x ≡ lookup old.nodes q x
+  pub nodes : (n : ℕ) → n ≢ m.from.at → n ≢ m.to → lookup old.nodes m.to m.name ≢ Some n → map.get less n ≡ map.get old.nodes n
+  pub directories : (n : ℕ) → lookup old.nodes m.to m.name ≢ Some n → StaysDirectory old.nodes less n
+  pub replaced : (n : ℕ) (node : Node) → lookup old.nodes m.to m.name ≡ Some n → map.get old.nodes n ≡ Some node → (n ≢ m.to) × (map.get less n ≡ with_name_less old n node)
 
 module _ (s : State) (m : Move) (means : lookup s.tree.nodes m.from.at m.from.name ≡ Some m.from.ino) where
   -- the state without the old name
@@ -321,7 +319,7 @@ module _ (s : State) (m : Move) (means : lookup s.tree.nodes m.from.at m.from.na
   pub apart_names : (o : Option ℕ) → lookup s.tree.nodes m.to m.name ≡ o → o ≢ Some m.from.ino → IsOther m.to m.name m.from.at m.from.name
   apart_names o onto ne at name = ne (sym onto ∙ sym (ap (lookup s.tree.nodes m.to) name) ∙ sym (ap (λ (k : ℕ). lookup s.tree.nodes k m.from.name) at) ∙ means)
 
-  pub clears_nothing : lookup s.tree.nodes m.to m.name ≡ None → Clears s.tree.nodes taken.tree.nodes m
+  pub clears_nothing : lookup s.tree.nodes m.to m.name ≡ None → Clears s.tree taken.tree.nodes m
   clears_nothing none =
       let u = taken_unnamed in
       let other = apart_names None none (λ e. absurd cc) in
@@ -350,7 +348,7 @@ module _ (s : State) (m : Move) (means : lookup s.tree.nodes m.from.at m.from.na
     cleared_leaf =
         unnamed_leaf taken.tree.nodes (cleared s m).tree.nodes m.to m.name target target_unnamed (unnamed_leaf s.tree.nodes taken.tree.nodes m.from.at m.from.name target taken_unnamed leaf)
 
-    pub clears_target : (less : Nodes) → Touches (cleared s m).tree.nodes less target → (node : Node) → map.get s.tree.nodes target ≡ Some node → map.get less target ≡ with_name_less node → Clears s.tree.nodes less m
+    pub clears_target : (less : Nodes) → Touches (cleared s m).tree.nodes less target → (node : Node) → map.get s.tree.nodes target ≡ Some node → map.get less target ≡ with_name_less s.tree target node → Clears s.tree less m
     clears_target less t node was left =
         let u = taken_unnamed in
         let v = target_unnamed in
@@ -370,7 +368,7 @@ module _ (s : State) (m : Move) (means : lookup s.tree.nodes m.from.at m.from.na
               let nodes : Some node ≡ Some k = sym was ∙ ap (map.get s.tree.nodes) same ∙ is in
               let equal : node ≡ k = cc in (
                 λ here. not_leaf s.tree.nodes m.to m.name target target onto leaf (same ∙ here),
-                ap (map.get less) (sym same) ∙ left ∙ ap with_name_less equal,
+                ap (map.get less) (sym same) ∙ left ∙ ap (with_name_less s.tree target) equal ∙ ap (λ (i : ℕ). with_name_less s.tree i k) same,
               );
         }
 
@@ -378,7 +376,7 @@ module _ (s : State) (place : ℕ) (old new : List ℕ) where
   -- a rename onto another inode, or onto nothing
   pub record Clearing (m : Move) (done : Done) : Type 0 where
     pub less : State
-    pub clears : Clears s.tree.nodes less.tree.nodes m
+    pub clears : Clears s.tree less.tree.nodes m
     pub entering : enter less m ≡ Ok done
     pub other : IsOther m.to m.name m.from.at m.from.name
     pub apart : lookup s.tree.nodes m.to m.name ≢ Some m.from.ino
@@ -401,20 +399,20 @@ module _ (s : State) (place : ℕ) (old new : List ℕ) where
     apart = λ e. (let c : Some target ≡ Some m.from.ino = sym onto ∙ e in ne cc);
   })
   clearing m done means (file target f moved ne onto node there h) = inl (record {
-    less = unlinked (cleared s m) place target f;
-    clears = clears_target s m means target onto ne (file_leaf s.tree.nodes target f there) (unlinked (cleared s m) place target f).tree.nodes (unlinked_touches (cleared s m) place target f) (IsFile f) there
-        (unlinked_left (cleared s m) place target f);
+    less = unlinked (cleared s m) place target (is_last s.tree target f) f;
+    clears = clears_target s m means target onto ne (file_leaf s.tree.nodes target f there) (unlinked (cleared s m) place target (is_last s.tree target f) f).tree.nodes
+        (unlinked_touches (cleared s m) place target (is_last s.tree target f) f) (IsFile f) there (unlinked_left s (cleared s m) place target f);
     entering = h;
     other = apart_names s m means (Some target) onto (λ e. ne cc);
     apart = λ e. (let c : Some target ≡ Some m.from.ino = sym onto ∙ e in ne cc);
   })
 
-  renamed : (done : Done) (r : Renames s place old new done) → Clearing r.move done → IsRenamed s.tree.nodes done.state.tree.nodes old new
+  renamed : (done : Done) (r : Renames s place old new done) → Clearing r.move done → IsRenamed s.tree done.state.tree.nodes old new
   renamed done r c =
       let m : Move = r.move in
       let e = entered c.less m done c.entering in
       let named = added_named c.less e.0 m.to m.from.ino m.name e.1 in
-      subst (λ (x : Done). IsRenamed s.tree.nodes x.state.tree.nodes old new) (sym e.2) (record {
+      subst (λ (x : Done). IsRenamed s.tree x.state.tree.nodes old new) (sym e.2) (record {
         at = m.from.at;
         name = m.from.name;
         ino = m.from.ino;
@@ -440,7 +438,7 @@ module _ (s : State) (place : ℕ) (old new : List ℕ) where
   new_walk done r = inode_at s.tree.nodes s.tree.nodes new r.move.to r.move.name r.leads r.leads.walked
 
   pub rename_moves : (session : ℕ) (done : Done) → step s place session (call.Rename old new) ≡ Some done → done.reply ≡ say.Fine → inode_of s.tree.nodes new ≢ inode_of s.tree.nodes old
-      → IsRenamed s.tree.nodes done.state.tree.nodes old new
+      → IsRenamed s.tree done.state.tree.nodes old new
   rename_moves session done h reply ne =
       let r = renames s place old new done (succeeded s (rename s place old new) done h (not_fine done.reply reply)) in
       elim (clearing r.move done r.enters.means r.onto) [

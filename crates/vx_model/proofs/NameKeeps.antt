@@ -13,13 +13,14 @@ use Rattle.vx_space.specs.Placing.{place_fill}
 use Rattle.vx_space.specs.Space.{Space, no_space, page_blocks, maps_for}
 use Rattle.vx_space.specs.Uses.{uses}
 use Rattle.vx_model.specs.Outcome.{Maybe}
-use Rattle.vx_model.specs.Tree.{Tree, Directory, IsDirectory, Entries}
-use Rattle.vx_model.specs.Layout.{DirectoryBlock, Layout, blocks_at, maps_at, block_numbers, owned, is_free, pages_from, with_blocks, with_last, with_entry, next_block, block_of_page, directory_filling, directory_request, add_entry, other_name, without_name}
+use Rattle.vx_model.specs.Tree.{Node, Directory, IsDirectory, Entries}
+use Rattle.vx_model.specs.Layout.{DirectoryBlock, Layout, blocks_at, maps_at, block_numbers, owned, is_free, pages_from, with_blocks, with_last, with_entry, next_block, block_of_page, directory_filling, directory_request, other_name, without_name}
 use Rattle.vx_model.specs.State.{State}
 use Rattle.vx_model.specs.Walks.{directory_at}
 use Rattle.vx_model.specs.Edits.{with_nodes, with_name, add_name, remove_name_in, remove_name}
 use Rattle.vx_model.specs.Reads.{entries_from}
-use Rattle.vx_model.specs.LaidOut.{IsOnceUsed, IsDirectoryOf, IsLaidOut, entries_of}
+use Rattle.vx_model.specs.LaidOut.{IsOnceUsed, IsDirectoryOf, IsFileNode, IsLaidOut, entries_of}
+use Rattle.vx_model.specs.Legal.{IfThere}
 use Rattle.vx_model.proofs.Owning.{same_once, grown_once}
 use Rattle.vx_model.proofs.NextBlock.{IsNext, next_is, page_numbers, maps_more}
 use Rattle.vx_model.proofs.BlockClaims.{IsWhole, same_owned, pages_same, same_length}
@@ -42,6 +43,9 @@ renamed l at d names blocks is same are spelled =
       space = is.space;
     }
 
+no_file_there : (s : State) (at : ℕ) (d : Directory) → map.get s.tree.nodes at ≡ Some (IsDirectory d) → IfThere (map.get s.tree.nodes at) IsFileNode → ⊥
+no_file_there s at d there file = subst (λ (o : Option Node). IfThere o IsFileNode) there file
+
 renamed_laid : (s : State) (at : ℕ) (d : Directory) (names : Entries) (blocks : List DirectoryBlock) → IsLaidOut s → map.get s.tree.nodes at ≡ Some (IsDirectory d) → block_numbers blocks ≡ block_numbers (blocks_at s.layout at)
     → names ≡ entries_from (entries_of blocks) → AllByRecursion IsSpelled blocks
     → IsLaidOut (record { tree = with_nodes s.tree (map.insert s.tree.nodes at (IsDirectory (record d { entries = names }))); layout = with_blocks s.layout at blocks })
@@ -49,6 +53,7 @@ renamed_laid s at d names blocks is there same are spelled =
     let held = node_held s is at (IsDirectory d) there in
     replaced_laid s is at (record d { entries = names }) blocks s.layout.maps (λ n ne. refl) (renamed s.layout at d names blocks held.0 same are spelled) held.1 held.2
     (same_once s.layout (with_blocks s.layout at blocks) refl (λ n. same_owned s.layout (with_blocks s.layout at blocks) n (same_numbers s.layout at blocks same n)) (λ b none. none) is.use_of_blocks)
+    (no_file_there s at d there)
 
 -- ---- a name more
 
@@ -76,12 +81,9 @@ each_push : (ds : List DirectoryBlock) (d : DirectoryBlock) → AllByRecursion I
 each_push [] d all is = (is, tt)
 each_push (x ∷ xs) d all is = (all.0, each_push xs d all.1 is)
 
-pub extent_size : (s : State) → IsLaidOut s → s.tree.tunables.initial_extent_size ≡ 8
-extent_size s is = ap (λ (t : Tree). t.tunables.initial_extent_size) is.rest
-
-module _ (l : Layout) (at : ℕ) (d : Directory) (e : DirEntry) (after : Layout) (is : IsDirectoryOf l at d) (g : Grown l 8 at e after) where
+module _ (l : Layout) (first at : ℕ) (d : Directory) (e : DirEntry) (after : Layout) (is : IsDirectoryOf l at d) (g : Grown l first at e after) where
   pub next : IsNext l at g.filling
-  next = next_is l 8 at g.filling g.next
+  next = next_is l first at g.filling g.next
 
   abbrev pub last : DirectoryBlock
   last = record { block = block_of_page g.filling.pages (length (blocks_at l at)); entries = e ∷ [] }
@@ -134,30 +136,31 @@ module _ (l : Layout) (at : ℕ) (d : Directory) (e : DirEntry) (after : Layout)
       let numbers : block_numbers (blocks_at new at) ≡ page_blocks g.filling.pages = ap block_numbers blocks_now ∙ sym (page_numbers 0 blocks) ∙ ap page_blocks (sym pages_are) in
       (λ i. numbers i ++ (page_blocks (is.space i).present ++ maps_now i))
 
-  placed : place_fill (directory_request l 8) no_space (length (blocks_at l at)) 1 (directory_filling l at) ≡ Ok g.filling
+  placed : place_fill (directory_request l first) no_space (length (blocks_at l at)) 1 (directory_filling l at) ≡ Ok g.filling
   unfolding next_block
   placed = g.next
 
-  grown_uses : PlaceLaws → (b : ℕ) → uses (owned new at) b ≤ cond (is_free l b) 1 0 + uses (owned l at) b
-  grown_uses place b =
-      let grows = place.grows (directory_request l 8) no_space (length (blocks_at l at)) 1 (directory_filling l at) g.filling (omega arith) placed in
+  grown_uses : PlaceLaws → 1 ≤ first → (b : ℕ) → uses (owned new at) b ≤ cond (is_free l b) 1 0 + uses (owned l at) b
+  grown_uses place some b =
+      let grows = place.grows (directory_request l first) no_space (length (blocks_at l at)) 1 (directory_filling l at) g.filling some placed in
       let kept = grows.purposes_kept b in
       let old : uses (owned l at) b ≡ uses (page_blocks (pages_from 0 (blocks_at l at)) ++ maps_at l at) b = ap (λ (xs : List ℕ). uses xs b) old_owned in
       let now : uses (owned new at) b ≡ uses (page_blocks g.filling.pages ++ g.filling.maps) b = ap (λ (xs : List ℕ). uses xs b) new_owned in
       omega (arith, kept, old, now)
 
-  pub grown_layout_once : PlaceLaws → at < 128 * l.units → IsOnceUsed l → IsOnceUsed new
-  grown_layout_once place low once =
+  pub grown_layout_once : PlaceLaws → 1 ≤ first → at < 128 * l.units → IsOnceUsed l → IsOnceUsed new
+  grown_layout_once place some low once =
       grown_once l once new at refl low (λ b. refl)
-      (λ n ne. same_owned l new n (same_at l new n (others_same l at blocks new.maps (λ k other. elsewhere k at g.filling.maps (l.maps k) other) n ne))) (grown_uses place)
+      (λ n ne. same_owned l new n (same_at l new n (others_same l at blocks new.maps (λ k other. elsewhere k at g.filling.maps (l.maps k) other) n ne))) (grown_uses place some)
 
 grown_laid : (s : State) (at : ℕ) (d : Directory) (e : DirEntry) (after : Layout) → PlaceLaws → IsLaidOut s → map.get s.tree.nodes at ≡ Some (IsDirectory d) → map.get d.entries e.name ≡ None → IsEntry e
-    → (g : Grown s.layout 8 at e after) → IsLaidOut (named s at e.ino e.name d (with_last s.layout at e g.filling))
+    → (g : Grown s.layout s.tree.tunables.initial_extent_size at e after) → IsLaidOut (named s at e.ino e.name d (with_last s.layout at e g.filling))
 grown_laid s at d e after place is there unused entry g =
+    let first : ℕ = s.tree.tunables.initial_extent_size in
     let held = node_held s is at (IsDirectory d) there in
-    replaced_laid s is at (record d { entries = map.insert d.entries e.name e.ino }) (blocks s.layout at d e after held.0 g) (with_last s.layout at e g.filling).maps
-    (λ n ne. elsewhere n at g.filling.maps (s.layout.maps n) ne) (grown_directory s.layout at d e after held.0 g entry unused) held.1 held.2
-    (grown_layout_once s.layout at d e after held.0 g place held.2 is.use_of_blocks)
+    replaced_laid s is at (record d { entries = map.insert d.entries e.name e.ino }) (blocks s.layout first at d e after held.0 g) (with_last s.layout at e g.filling).maps
+    (λ n ne. elsewhere n at g.filling.maps (s.layout.maps n) ne) (grown_directory s.layout first at d e after held.0 g entry unused) held.1 held.2
+    (grown_layout_once s.layout first at d e after held.0 g place is.tunables.some held.2 is.use_of_blocks) (no_file_there s at d there)
 
 some_same : {A : Type 0} (o : Option A) (x y : A) → o ≡ Some x → o ≡ Some y → x ≡ y
 some_same {A = A} o x y h k = let e : ◌≡◌ {A = Option A} (Some x) (Some y) = sym h ∙ k in cc
@@ -174,7 +177,7 @@ added place s new at ino name d is there legal unused low h =
     let limit : s.layout.units ≤ 64 = is.units_limit in
     let e : DirEntry = record { ino = ino; name = name } in
     let entry : IsEntry e = record { ino = omega arith; name = short_name name legal } in
-    let grows = entry_added s.layout a.layout 8 at e (subst (λ (n : ℕ). add_entry s.layout n at e ≡ Ok a.layout) (extent_size s is) a.added) in
+    let grows = entry_added s.layout a.layout s.tree.tunables.initial_extent_size at e a.added in
     subst IsLaidOut (sym a.state) (elim grows [
       | inl f ↦ subst (λ (l : Layout). IsLaidOut (named s at ino name a.directory l)) (sym f.layout) (filled_laid s at a.directory e f.blocks is a.is_directory new_name entry f.filled)
       | inr g ↦ subst (λ (l : Layout). IsLaidOut (named s at ino name a.directory l)) (sym g.layout) (grown_laid s at a.directory e a.layout place is a.is_directory new_name entry g)

@@ -1,5 +1,5 @@
 -- What is read in an image that says a state.
-use Rattle.std.proofs.Common.{◌≡◌, ℕ, zero, suc, ◌+◌, ◌-◌, ◌*◌, ◌≤◌, List, [], ◌∷◌, ◌++◌, length, map, take, drop, Option, Some, None, refl, sym, ap, ap₂, subst, ◌∙◌, arith}
+use Rattle.std.proofs.Common.{◌≡◌, ℕ, suc, ◌+◌, ◌*◌, ◌≤◌, List, [], ◌∷◌, ◌++◌, length, take, drop, Option, Some, None, refl, sym, ap, ap₂, subst, ◌∙◌, arith}
 use Rattle.std.specs.Prelude.{slice_get}
 use Rattle.std.specs.List.{flat_map, AllByRecursion}
 use Rattle.std.specs.Option.{option_map, option_and_then}
@@ -137,7 +137,7 @@ module _ (laws : Laws) (s : State) (image : ℕ → List ℕ) (h : IsImageOf s i
 
   directory_by : (n : ℕ) (o : Option Node) → map_of.get s.tree.nodes n ≡ o → IsHeld l n o → directory_blocks v image (option_map (inode_for (settled_of l n)) o) ≡ block_numbers (blocks_at l n)
   directory_by n None e held = ap block_numbers (sym (nothing_at l n held).0)
-  directory_by n (Some (IsFile f)) e held = ap block_numbers (sym (nothing_at l n held.0.1).0)
+  directory_by n (Some (IsFile f)) e held = ap block_numbers (sym held.0.no_blocks)
   directory_by n (Some (IsDirectory d)) e held =
       blocks n (inode_for (settled_of l n) (IsDirectory d)) (ap (option_map (inode_for (settled_of l n))) e)
       ∙ ap page_blocks (directory_pages l n d held.0) ∙ page_numbers 0 (blocks_at l n)

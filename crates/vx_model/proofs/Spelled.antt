@@ -1,30 +1,34 @@
 -- The inodes and the metadata blocks of a state have a spelling.
-use Rattle.std.proofs.Common.{◌≡◌, ℕ, zero, suc, ◌+◌, ◌-◌, ◌*◌, ◌/◌, ◌%◌, ◌<◌, ◌≤◌, ◌^◌, Bool, true, false, cond, List, [], ◌∷◌, ◌++◌, length, map, take, drop, Option, Some, None, refl, sym, ap, subst, ◌∙◌, arith, lit<, lit≤, length-append}
-use Rattle.std.specs.Prelude.{◌&&◌, ◌||◌, ◌==◌, nat_le, nat_lt, is_some, IsTrue, IfSome}
-use Rattle.std.specs.List.{flat_map, list_all, AllByRecursion}
+use Rattle.std.proofs.Common.{◌≡◌, ℕ, zero, suc, ◌+◌, ◌-◌, ◌*◌, ◌%◌, ◌<◌, ◌≤◌, ◌^◌, Bool, true, false, cond, List, [], ◌∷◌, ◌++◌, length, map, take, drop, Option, Some, None, refl, sym, ap, subst, ◌∙◌, arith, lit<, lit≤}
+use Rattle.std.specs.Prelude.{◌||◌, ◌==◌, nat_lt, bit_and, is_some, IsTrue, IfSome}
+use Rattle.std.specs.List.{list_all, AllByRecursion}
 use Rattle.std.specs.Option.{option_map, option_and_then}
 use Rattle.std.specs.FinMap as map_of
 use Rattle.std.proofs.lemmas.Bool.{le-leb, leb-true, lt-ltb, eq-eqb, ltb-true, and_parts, and_from, eqb-true}
 use Rattle.std.proofs.lemmas.List.{length-take, length-take-le, length-drop, append-nil}
+use Rattle.vx_base.specs.declared.call.ExtAttrs.{ExtAttrs}
 use Rattle.vx_base.specs.declared.inode.Extent.{Extent}
 use Rattle.vx_base.specs.declared.inode.Inode.{Inode}
-use Rattle.vx_base.specs.declared.inode.InodeValue.{InodeValue}
 use Rattle.vx_base.specs.declared.kind.FileKind.{FileKind}
 use Rattle.vx_base.specs.declared.kind.FileKind.TheVariants as kind_of
 use Rattle.vx_layout.specs.Places.{is_data}
-use Rattle.vx_layout.specs.Inodes.{IsExtent, IsInode, IsPlace, ArePlaces, layout1, inode_fits, attrs_fit, place_has_length, is_map_number}
+use Rattle.vx_layout.specs.Inodes.{IsExtent, IsInode, ArePlaces, layout1, inode_fits, attrs_fit, place_has_length, is_map_number}
 use Rattle.vx_layout.specs.Dirs.{IsDir}
-use Rattle.vx_layout.specs.Maps.{MapBlock, IsMap}
+use Rattle.vx_layout.specs.Maps.{IsMap}
 use Rattle.vx_extents.specs.Extents.{Mapped, stretches, chain_len, extent_count}
+use Rattle.vx_space.specs.Laws.{AreRising}
 use Rattle.vx_space.specs.Space.{Space, page_blocks, maps_for}
 use Rattle.vx_sound.specs.Said.{among}
-use Rattle.vx_sound.specs.Reading.{Form, Extents, IsForm, IsSpelled, HasWholeBlocks}
+use Rattle.vx_sound.specs.Reading.{Form, IsForm, IsSpelled, HasWholeBlocks}
 use Rattle.vx_model.specs.Tree.{Node, IsFile, IsDirectory, File, Directory, no_attrs}
 use Rattle.vx_model.specs.Layout.{DirectoryBlock, Layout, Claim, Claimed, volume, blocks_at, space_at, maps_at, block_numbers, owned, pages_from, settled_at, settled_maps, first_of, chain_of, chain_at, names_claimed, page_claimed, claimed_at, claim_among, or_claim, claim_below, claim_of}
+use Rattle.vx_model.specs.Shapes.{kept_attrs}
 use Rattle.vx_model.specs.State.{State}
-use Rattle.vx_model.specs.Contents.{Held, places as places_of, value_of, settled_of, inode_for, inode_value, parsed_of}
-use Rattle.vx_model.specs.LaidOut.{IsPlainFile, IsOnceUsed, IsDirectoryOf, IsNodeOf, IsHeld, IsLaidOut, HasNothing}
-use Rattle.vx_model.proofs.Stretching.{IsLowPage, few_stretches, are_extents, FillsChain, chain_fills}
+use Rattle.vx_model.specs.Contents.{Held, places as places_of, value_of, settled_of, inode_for, parsed_of}
+use Rattle.vx_model.specs.LaidOut.{AreAttrs, IsFileOf, IsDirectoryOf, IsNodeOf, IsHeld, IsLaidOut, HasNothing}
+use Rattle.vx_model.proofs.Claims.{part_uses, settled_part}
+use Rattle.vx_model.proofs.Uses.{is_among, among_uses}
+use Rattle.vx_model.proofs.Stretching.{IsLowPage, few_stretches, are_extents, chain_fills}
 
 pub whole_blocks : (l : Layout) → HasWholeBlocks (volume l)
 whole_blocks l = record { volume = record { some = lit< tt; even = refl }; whole = refl; high = lit≤ tt }
@@ -109,19 +113,31 @@ few_maps h is = let count = is.maps in let few = is.few in let full = (chain_fil
 abbrev bare : FileKind → (mode nlink size : ℕ) → Inode
 bare kind mode nlink size = record { kind = kind; mode = mode; nlink = nlink; size = size; attrs = no_attrs }
 
-value_fits : (h : Held) (kind : FileKind) (mode nlink size : ℕ) → IsHeldRight h → mode ≤ 4095 → nlink ≤ 32767 → size ≤ 65536 → attrs_fit layout1 (bare kind mode nlink size) ≡ true
-    → IsInode layout1 (value_of h (bare kind mode nlink size))
+-- numbers that fit their fields
+record IsSmall (i : Inode) : Type 0 where
+  mode : i.mode ≤ 4095
+  nlink : i.nlink ≤ 32767
+  size : i.size ≤ 2 ^ 26
+  attrs : AreAttrs i.attrs
+
+value_fits : (h : Held) (i : Inode) → IsHeldRight h → IsSmall i → attrs_fit layout1 i ≡ true → IsInode layout1 (value_of h i)
 unfolding inode_fits
-value_fits h kind mode nlink size is low few short attrs =
+value_fits h i is small attrs =
     let places = are_places h.extents is.each in
-    let long = all_long (length h.extents) 0 (places_of h.extents) places in record {
-      fits = and_from _ _ (le-leb mode 4095 low) (and_from _ _ (le-leb nlink 32767 few) (and_from _ _ (le-leb (length h.extents) 4038 is.few)
-          (and_from _ _ (eq-eqb (length h.maps) (chain_len 63 (length h.extents)) is.maps) (and_from _ _ (first_is h.maps is.low) (and_from _ _ long attrs)))));
-      mode = omega arith;
-      nlink = omega arith;
-      size = omega arith;
-      fixed = lit< tt;
-      reserve = lit< tt;
+    let long = all_long (length h.extents) 0 (places_of h.extents) places in
+    let low = small.mode in
+    let few = small.nlink in
+    let short = small.size in
+    let fixed = small.attrs.fixed in
+    let reserve = small.attrs.reserve in record {
+      fits = and_from _ _ (lt-ltb i.attrs.flags 32 small.attrs.flags)
+          (and_from _ _ (le-leb i.mode 4095 low) (and_from _ _ (le-leb i.nlink 32767 few) (and_from _ _ (le-leb (length h.extents) 4038 is.few)
+          (and_from _ _ (eq-eqb (length h.maps) (chain_len 63 (length h.extents)) is.maps) (and_from _ _ (first_is h.maps is.low) (and_from _ _ long attrs))))));
+      mode = omega (arith, low);
+      nlink = omega (arith, few);
+      size = omega (arith, short);
+      fixed = omega (arith, fixed);
+      reserve = omega (arith, reserve);
       maps = few_maps h is;
       extents = (let count = is.few in omega (arith, count));
       six = refl;
@@ -129,6 +145,38 @@ value_fits h kind mode nlink size is low few short attrs =
       map = first_low h.maps is.low;
       chained = first_some h.maps;
     }
+
+bare_small : (kind : FileKind) (mode nlink size : ℕ) → mode ≤ 4095 → nlink ≤ 32767 → size ≤ 2 ^ 26 → IsSmall (bare kind mode nlink size)
+bare_small kind mode nlink size low few short = record { mode = low; nlink = few; size = short; attrs = record { fixed = lit≤ tt; reserve = lit≤ tt; flags = lit< tt } }
+
+-- ---- what the device says of a file's attributes
+
+abbrev file_inode : (f : File) (attrs : ExtAttrs) (size : ℕ) → Inode
+file_inode f attrs size = record { kind = kind_of.File; mode = f.mode; nlink = f.nlink; size = size; attrs = attrs }
+
+-- a file's attributes fit, where it keeps a reservation or has none
+attrs_by : (f : File) (a : ExtAttrs) (size : ℕ) (t : Bool) → (bit_and a.flags 8 == 0) ≡ t → AreAttrs a → (t ≡ false → a.reserve ≡ 0) → size ≤ 2 ^ 26 → attrs_fit layout1 (file_inode f a size) ≡ true
+attrs_by f a size t is small none short =
+    let reserve = small.reserve in
+    and_from _ _ (le-leb size (2 ^ 26) short)
+    (and_from _ _ (le-leb a.fixed 4063 small.fixed) (and_from _ _ (le-leb a.reserve 65536 reserve) (and_from _ _ (le-leb (a.reserve * 1024) (2 ^ 26) (omega (arith, reserve))) (last t is none))))
+  where
+    last : (t : Bool) → (bit_and a.flags 8 == 0) ≡ t → (t ≡ false → a.reserve ≡ 0) → (bit_and a.flags 8 == 0 || a.reserve == 0) ≡ true
+    last true is none = ap (λ (u : Bool). u || a.reserve == 0) is
+    last false is none = ap (λ (u : Bool). u || a.reserve == 0) is ∙ eq-eqb a.reserve 0 (none refl)
+
+record AreKept (f : File) (size : ℕ) (a : ExtAttrs) : Type 0 where
+  small : AreAttrs a
+  fit : attrs_fit layout1 (file_inode f a size) ≡ true
+
+kept_by : (f : File) (size : ℕ) (t : Bool) → (bit_and f.attrs.flags 8 == 0) ≡ t → AreAttrs f.attrs → size ≤ 2 ^ 26 → AreKept f size (cond t f.attrs (record f.attrs { reserve = 0 }))
+kept_by f size true is small short = record { small = small; fit = attrs_by f f.attrs size true is small (λ e. absurd cc) short }
+kept_by f size false is small short =
+    let none : AreAttrs (record f.attrs { reserve = 0 }) = record { fixed = small.fixed; reserve = lit≤ tt; flags = small.flags } in
+    record { small = none; fit = attrs_by f (record f.attrs { reserve = 0 }) size false is none (λ e. refl) short }
+
+attrs_kept : (f : File) (size : ℕ) → AreAttrs f.attrs → size ≤ 2 ^ 26 → AreKept f size (kept_attrs f.attrs)
+attrs_kept f size small short = kept_by f size (bit_and f.attrs.flags 8 == 0) refl small short
 
 -- ---- the blocks of an inode
 
@@ -144,6 +192,10 @@ pub all_among : (P : ℕ → Type 0) (xs : List ℕ) → ((b : ℕ) → among xs
 all_among P [] each = tt
 all_among P (x ∷ xs) each =
     (each x (or_left (x == x) (among xs x) (eq-eqb x x refl)), all_among P xs (λ b h. each b (or_right (b == x) (among xs b) h)))
+
+among_all_by : (l : Layout) (x : ℕ) (xs : List ℕ) (b : ℕ) (t : Bool) → (b == x) ≡ t → IsTrue (is_data (volume l) x) → (among xs b ≡ true → IsTrue (is_data (volume l) b)) → (t || among xs b) ≡ true → IsTrue (is_data (volume l) b)
+among_all_by l x xs b true e here rest h = subst (λ (c : ℕ). IsTrue (is_data (volume l) c)) (sym (eqb-true b x e)) here
+among_all_by l x xs b false e here rest h = rest h
 
 pub all_first : {X : Type 0} (P : X → Type 0) (xs ys : List X) → AllByRecursion P (xs ++ ys) → AllByRecursion P xs
 all_first P [] ys all = tt
@@ -173,6 +225,9 @@ nothing_at l n h =
 pub no_pages : (l : Layout) (n : ℕ) → HasNothing l n → settled_at l n ≡ []
 no_pages l n h = ap (λ ds. pages_from 0 ds ++ (space_at l n).settled) (nothing_at l n h).0 ∙ ap (λ (x : Space). x.settled) h.space
 
+pub file_pages : (l : Layout) (n : ℕ) (f : File) → IsFileOf l n f → settled_at l n ≡ (space_at l n).settled
+file_pages l n f h = ap (λ (ds : List DirectoryBlock). pages_from 0 ds ++ (space_at l n).settled) h.no_blocks
+
 pub directory_pages : (l : Layout) (n : ℕ) (d : Directory) → IsDirectoryOf l n d → settled_at l n ≡ pages_from 0 (blocks_at l n)
 directory_pages l n d h = ap (λ (x : Space). pages_from 0 (blocks_at l n) ++ x.settled) h.space ∙ append-nil (pages_from 0 (blocks_at l n))
 
@@ -183,6 +238,19 @@ page_count page (d ∷ ds) = ap suc (page_count (page + 1) ds)
 low_pages : (page : ℕ) (ds : List DirectoryBlock) → AllByRecursion IsLowBlock (block_numbers ds) → page + length ds < 2 ^ 32 → AllByRecursion IsLowPage (pages_from page ds)
 low_pages page [] all few = tt
 low_pages page (d ∷ ds) all few = (record { page = omega (arith, few); block = all.0.low }, low_pages (page + 1) ds all.1 (omega (arith, few)))
+
+low_rising : (from : ℕ) (pages : List Mapped) → AreRising from pages → AllByRecursion IsLowBlock (page_blocks pages) → AllByRecursion IsLowPage pages
+low_rising from [] rises all = tt
+low_rising from (m ∷ pages) rises all =
+    let page : m.page < 65536 = rises.1 in
+    (record { page = omega (arith, page); block = all.0.low }, low_rising (m.page + 1) pages rises.2 all.1)
+
+rising_short : (from : ℕ) (pages : List Mapped) → AreRising from pages → from ≤ 65536 → from + length pages ≤ 65536
+rising_short from [] rises low = omega (arith, low)
+rising_short from (m ∷ pages) rises low =
+    let above : from ≤ m.page = rises.0 in
+    let page : m.page < 65536 = rises.1 in
+    let rest = rising_short (m.page + 1) pages rises.2 (omega (arith, page)) in omega (arith, above, rest)
 
 module _ (s : State) (is : IsLaidOut s) where
   abbrev l : Layout
@@ -198,6 +266,19 @@ module _ (s : State) (is : IsLaidOut s) where
   maps_data n =
       all_take (IsDataBlock l) (maps_for (settled_at l n)) (maps_at l n) (all_second (IsDataBlock l) (page_blocks (space_at l n).present) (maps_at l n)
       (all_second (IsDataBlock l) (block_numbers (blocks_at l n)) (page_blocks (space_at l n).present ++ maps_at l n) (owned_data n)))
+
+  among_all : (xs : List ℕ) → AllByRecursion (IsDataBlock l) xs → (b : ℕ) → among xs b ≡ true → IsDataBlock l b
+  among_all [] all b h = absurd cc
+  among_all (x ∷ xs) all b h = among_all_by l x xs b (b == x) refl all.0 (among_all xs all.1 b) h
+
+  pub pages_data : (n : ℕ) → AllByRecursion (IsDataBlock l) (page_blocks (space_at l n).settled)
+  pages_data n =
+      let x : Space = space_at l n in
+      let all = all_first (IsDataBlock l) (page_blocks x.present) (maps_at l n) (all_second (IsDataBlock l) (block_numbers (blocks_at l n)) (page_blocks x.present ++ maps_at l n) (owned_data n)) in
+      all_among (IsDataBlock l) (page_blocks x.settled) (λ b there.
+      let part = part_uses x.settled x.present (settled_part s is n) b in
+      let some = among_uses (page_blocks x.settled) b there in
+      among_all (page_blocks x.present) all b (is_among (page_blocks x.present) b (omega (arith, part, some))))
 
   low_of : (xs : List ℕ) → AllByRecursion (IsDataBlock l) xs → AllByRecursion IsLowBlock xs
   low_of = all_more (IsDataBlock l) IsLowBlock (data_low s is)
@@ -230,23 +311,29 @@ module _ (s : State) (is : IsLaidOut s) where
         low = low_of (settled_maps l n) (maps_data n);
       }
 
+  file_right : (n : ℕ) (f : File) → IsFileOf l n f → IsHeldRight (settled_of l n)
+  file_right n f h =
+      let x : Space = space_at l n in
+      let pages = file_pages l n f h in
+      let low = low_rising 0 x.settled h.space.settled_rises (low_of (page_blocks x.settled) (pages_data n)) in
+      let short = rising_short 0 x.settled h.space.settled_rises (omega arith) in
+      let extents = are_extents x.settled low (omega (arith, short)) in
+      let few : extent_count x.settled ≤ 4038 = (let most = h.space.extents in omega (arith, most)) in
+      let chain : maps_for x.settled ≤ length (maps_at l n) = (let needed = h.space.chain in omega (arith, needed)) in record {
+        each = subst (λ ps. AllByRecursion IsExtent (stretches ps)) (sym pages) extents;
+        few = subst (λ ps. extent_count ps ≤ 4038) (sym pages) few;
+        maps = maps_by n (subst (λ ps. maps_for ps ≤ length (maps_at l n)) (sym pages) chain);
+        low = low_of (settled_maps l n) (maps_data n);
+      }
+
   pub node_right : (n : ℕ) (node : Node) → IsNodeOf l n node → IsHeldRight (settled_of l n)
-  node_right n (IsFile f) h = nothing_right n h.1
+  node_right n (IsFile f) h = file_right n f h
   node_right n (IsDirectory d) h = directory_right n d h
 
   -- ---- inodes
 
-  -- a file without attributes and bytes
-  abbrev plain : File → Node
-  plain f = IsFile (record { mode = f.mode; nlink = f.nlink; attrs = no_attrs; bytes = [] })
-
-  plain_is : (f : File) → IsPlainFile f → IsFile f ≡ plain f
-  plain_is f is_plain = λ i. IsFile (record { mode = f.mode; nlink = f.nlink; attrs = is_plain.attrs i; bytes = is_plain.bytes i })
-
-  pub no_size : (n : ℕ) → HasNothing l n → (settled_of l n).size ≡ 0
-  no_size n h =
-      let none : length (blocks_at l n) ≡ 0 = ap (λ (ds : List DirectoryBlock). length ds) (nothing_at l n h).0 in
-      let size : (space_at l n).size ≡ 0 = ap (λ (x : Space). x.size) h.space in omega (arith, none, size)
+  pub file_size : (n : ℕ) (f : File) → IsFileOf l n f → (settled_of l n).size ≡ (space_at l n).size
+  file_size n f h = let none : length (blocks_at l n) ≡ 0 = ap (λ (ds : List DirectoryBlock). length ds) h.no_blocks in omega (arith, none)
 
   directory_size : (n : ℕ) (d : Directory) → IsDirectoryOf l n d → (settled_of l n).size ≡ 1024 * length (blocks_at l n)
   directory_size n d h = let size : (space_at l n).size ≡ 0 = ap (λ (x : Space). x.size) h.space in omega (arith, size)
@@ -257,13 +344,15 @@ module _ (s : State) (is : IsLaidOut s) where
 
   node_fits : (n : ℕ) (node : Node) → IsNodeOf l n node → IsInode layout1 (inode_for (settled_of l n) node)
   node_fits n (IsFile f) h =
-      let size : 0 ≡ (settled_of l n).size = sym (no_size n h.1) in
-      let fits = value_fits (settled_of l n) kind_of.File f.mode f.nlink 0 (nothing_right n h.1) h.0.mode h.0.few_links (omega arith) refl in
-      subst (λ (x : Node). IsInode layout1 (inode_for (settled_of l n) x)) (sym (plain_is f h.0))
-      (subst (λ (k : ℕ). IsInode layout1 (value_of (settled_of l n) (bare kind_of.File f.mode f.nlink k))) size fits)
+      let size = file_size n f h in
+      let most = h.space.settled_size in
+      let kept = attrs_kept f (settled_of l n).size h.attrs (omega (arith, size, most)) in
+      value_fits (settled_of l n) (file_inode f (kept_attrs f.attrs) (settled_of l n).size) (file_right n f h)
+      (record { mode = h.mode; nlink = h.few_links; size = omega (arith, size, most); attrs = kept.small }) kept.fit
   node_fits n (IsDirectory d) h =
       let few : length (blocks_at l n) ≤ 64 = (let one = h.few in let two = is.limit in omega (arith, one, two)) in
-      let fits = value_fits (settled_of l n) kind_of.Directory d.mode 1 (1024 * length (blocks_at l n)) (directory_right n d h) h.mode (lit≤ tt) (omega (arith, few)) (directory_attrs d.mode (length (blocks_at l n)) few) in
+      let fits = value_fits (settled_of l n) (bare kind_of.Directory d.mode 1 (1024 * length (blocks_at l n))) (directory_right n d h)
+      (bare_small kind_of.Directory d.mode 1 (1024 * length (blocks_at l n)) h.mode (lit≤ tt) (omega (arith, few))) (directory_attrs d.mode (length (blocks_at l n)) few) in
       subst (λ (k : ℕ). IsInode layout1 (value_of (settled_of l n) (bare kind_of.Directory d.mode 1 k))) (sym (directory_size n d h)) fits
 
   fits_by : (n : ℕ) (o : Option Node) → IsHeld l n o → IfSome (option_map (inode_for (settled_of l n)) o) (λ i. IsInode layout1 i × (n < 128 * l.units))
@@ -321,7 +410,7 @@ module _ (s : State) (is : IsLaidOut s) where
 
   claims_fit : (n : ℕ) (o : Option Node) → IsHeld l n o → AllByRecursion Fits (claimed_at l n)
   claims_fit n None h = nothing_fits n h
-  claims_fit n (Some (IsFile f)) h = nothing_fits n h.0.1
+  claims_fit n (Some (IsFile f)) h = held_fits n h.2 (file_right n f h.0) (subst (λ (ds : List DirectoryBlock). AllByRecursion Fits (map names_claimed ds)) (sym h.0.no_blocks) tt)
   claims_fit n (Some (IsDirectory d)) h = held_fits n h.2 (directory_right n d h.0) (names_fit (blocks_at l n) h.0.spelled (names_data n))
 
   abbrev ClaimFits : ℕ → Claim → Type 0

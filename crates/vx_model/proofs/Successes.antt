@@ -16,7 +16,7 @@ use Rattle.vx_model.specs.Walks.{root, walk, names_of, inode_of, node_at, direct
 use Rattle.vx_model.specs.Edits.{with_nodes, with_name, add_name, add_name_in, remove_name, set_node, drop_node}
 use Rattle.vx_model.specs.Entering.{Entry, entry_in, entry_at, entry_end, entry_along}
 use Rattle.vx_model.specs.Making.{make_as, make_in, make_at, make_end, make_along}
-use Rattle.vx_model.specs.Removing.{fine, unlinked, unlink_file, unlink_entry, unlink_along, unlink, remove_empty, remove_directory, rmdir_along, rmdir}
+use Rattle.vx_model.specs.Removing.{fine, is_last, unlinked, unlink_file, unlink_entry, unlink_along, unlink, remove_empty, remove_directory, rmdir_along, rmdir}
 use Rattle.vx_model.specs.Linking.{most_links, link_in, link_at, link_end, link_file, link_inode, link_along, link}
 use Rattle.vx_model.specs.Moving.{is_below, is_directory, Move, enter, cleared, replace_directory, replace_file, replace_by, move_onto, move_into, move_node, move_to, move_entry, move_ends, rename_along, rename}
 use Rattle.vx_model.specs.Naming.{with_mode, chmod_at, chmod_along, chmod}
@@ -133,7 +133,7 @@ pub record Unlinks (s : State) (place : ℕ) (path : List ℕ) (done : Done) : T
   pub file : File
   pub enters : Enters s.tree.nodes path entry
   pub there : map.get s.tree.nodes entry.ino ≡ Some (IsFile file)
-  pub is : done ≡ fine (unlinked (remove_name s entry.at entry.name) place entry.ino file)
+  pub is : done ≡ fine (unlinked (remove_name s entry.at entry.name) place entry.ino (is_last s.tree entry.ino file) file)
 
 pub unlinks : (s : State) (place : ℕ) (path : List ℕ) (done : Done) → unlink s place path ≡ Ok done → Unlinks s place path done
 unlinks s place path done h =
@@ -145,7 +145,7 @@ unlinks s place path done h =
       file = f.0;
       enters = enters_along s.tree.nodes path no.IsDir names.0 e.0 names.1 e.1;
       there = file_ok s.tree.nodes e.0.ino f.0 f.1;
-      is = is_ok (fine (unlinked (remove_name s e.0.at e.0.name) place e.0.ino f.0)) done f.2;
+      is = is_ok (fine (unlinked (remove_name s e.0.at e.0.name) place e.0.ino (is_last s.tree e.0.ino f.0) f.0)) done f.2;
     }
 
 pub record RemovesDirectory (s : State) (place : ℕ) (path : List ℕ) (done : Done) : Type 0 where
@@ -249,7 +249,7 @@ pub data Onto (s : State) (place : ℕ) (m : Move) (done : Done) : Type 0 where
   directory : (target : ℕ) (d moved : Directory) → target ≢ m.from.ino → lookup s.tree.nodes m.to m.name ≡ Some target → m.node ≡ IsDirectory moved → map.get s.tree.nodes target ≡ Some (IsDirectory d)
       → map.len d.entries ≡ 0 → enter (drop_node (cleared s m) place target) m ≡ Ok done → Onto s place m done
   file : (target : ℕ) (f moved : File) → target ≢ m.from.ino → lookup s.tree.nodes m.to m.name ≡ Some target → m.node ≡ IsFile moved → map.get s.tree.nodes target ≡ Some (IsFile f)
-      → enter (unlinked (cleared s m) place target f) m ≡ Ok done → Onto s place m done
+      → enter (unlinked (cleared s m) place target (is_last s.tree target f) f) m ≡ Ok done → Onto s place m done
 
 pub record Renames (s : State) (place : ℕ) (old new : List ℕ) (done : Done) : Type 0 where
   pub move : Move

@@ -5,7 +5,7 @@ use Rattle.std.specs.FinMap as map
 use Rattle.vx_base.specs.Paths.{FileName, is_name}
 use Rattle.vx_layout.specs.LogForms.{AfterImage}
 use Rattle.vx_model.specs.Tree.{Node, File, Directory, IsFile, IsDirectory, new_directory}
-use Rattle.vx_model.specs.Layout.{volume, blocks_at}
+use Rattle.vx_model.specs.Layout.{Layout, volume, blocks_at}
 use Rattle.vx_model.specs.State.{State}
 use Rattle.vx_model.specs.Walks.{root}
 use Rattle.vx_model.specs.Edits.{add_name, remove_name, set_node, drop_node}
@@ -13,7 +13,7 @@ use Rattle.vx_model.specs.Naming.{with_mode}
 use Rattle.vx_model.specs.Images.{content_at, IsBatch}
 use Rattle.vx_model.specs.Contents.{parsed_of}
 use Rattle.vx_model.specs.Legal.{with_released}
-use Rattle.vx_model.specs.LaidOut.{HasNothing, IsPlainFile, IsLaidOut}
+use Rattle.vx_model.specs.LaidOut.{HasNothing, IsFileOf, IsPlain, IsPlainFile, IsClosed, IsLaidOut}
 use Rattle.vx_model.specs.Touching.{Touched, IsTouched, HasTouched, untouched, joined, inode_touched, entries_touched, name_touched, IsOnlyIn, drop_touched}
 
 pub record EditLaws : Type 0 where
@@ -25,15 +25,25 @@ pub record EditLaws : Type 0 where
   pub removed : (s : State) (at : ℕ) (name : FileName) → IsLaidOut s → IsLaidOut (remove_name s at name)
   pub removed_touches : (s : State) (at i : ℕ) (name : FileName) → IsLaidOut s → IsOnlyIn name i (blocks_at s.layout at) → IsTouched s (remove_name s at name) (entries_touched at i)
   -- ---- an inode
-  pub file_set : (s : State) (ino : ℕ) (f : File) → IsLaidOut s → IsPlainFile f → ino ≢ root → 2 ≤ ino → ino < 128 * s.layout.units → HasNothing s.layout ino → IsLaidOut (set_node s ino (IsFile f))
+  pub file_set : (s : State) (ino : ℕ) (f : File) → IsLaidOut s → IsFileOf s.layout ino f → ino ≢ root → 2 ≤ ino → ino < 128 * s.layout.units → IsLaidOut (set_node s ino (IsFile f))
+  pub plain_file : (l : Layout) (ino : ℕ) (f : File) → f.mode ≤ 4095 → f.nlink ≤ 32767 → IsPlainFile f → HasNothing l ino → IsFileOf l ino f
+  pub links_set : (l : Layout) (ino nlink : ℕ) (f : File) → IsFileOf l ino f → nlink ≤ 32767 → IsFileOf l ino (record f { nlink = nlink })
   pub directory_set : (s : State) (ino mode : ℕ) → IsLaidOut s → mode ≤ 4095 → 2 ≤ ino → ino < 128 * s.layout.units → map.get s.tree.nodes ino ≡ None → IsLaidOut (set_node s ino (new_directory mode))
   pub mode_set : (s : State) (ino mode : ℕ) (node : Node) → IsLaidOut s → mode ≤ 4095 → map.get s.tree.nodes ino ≡ Some node → IsLaidOut (set_node s ino (with_mode mode node))
   pub set_touches : (s : State) (ino : ℕ) (node : Node) → IsTouched s (set_node s ino node) (inode_touched ino)
-  pub dropped : (s : State) (place ino : ℕ) → IsLaidOut s → ino ≢ root → IsLaidOut (drop_node s place ino)
+  pub dropped : (s : State) (place ino : ℕ) → IsLaidOut s → ino ≢ root → IsClosed s.tree ino → IsLaidOut (drop_node s place ino)
   pub dropped_touches : (s : State) (place ino : ℕ) → IsLaidOut s → IsTouched s (drop_node s place ino) (drop_touched s ino)
   -- ---- the blocks that wait
   pub released : (s : State) (upto : ℕ) → IsLaidOut s → IsLaidOut (with_released s upto)
   pub released_says : (s : State) (upto : ℕ) → parsed_of (with_released s upto) ≡ parsed_of s
+  -- ---- states without bytes
+  pub added_plain : (s new : State) (at ino : ℕ) (name : FileName) → IsPlain s → add_name s at name ino ≡ Ok new → IsPlain new
+  pub removed_plain : (s : State) (at : ℕ) (name : FileName) → IsPlain s → IsPlain (remove_name s at name)
+  pub file_plain : (s : State) (ino : ℕ) (f : File) → IsPlain s → IsPlainFile f → HasNothing s.layout ino → IsPlain (set_node s ino (IsFile f))
+  pub directory_plain : (s : State) (ino mode : ℕ) → IsPlain s → IsPlain (set_node s ino (new_directory mode))
+  pub mode_plain : (s : State) (ino mode : ℕ) (node : Node) → IsPlain s → map.get s.tree.nodes ino ≡ Some node → IsPlain (set_node s ino (with_mode mode node))
+  pub dropped_plain : (s : State) (place ino : ℕ) → IsPlain s → IsPlain (drop_node s place ino)
+  pub released_plain : (s : State) (upto : ℕ) → IsPlain s → IsPlain (with_released s upto)
   -- ---- one edit after another
   pub same : (s : State) → IsTouched s s untouched
   pub next : (a b c : State) (t u : Touched) → IsTouched a b t → IsTouched b c u → IsTouched a c (joined t u)

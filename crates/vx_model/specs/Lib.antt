@@ -1,5 +1,6 @@
 pub mod Outcome
 pub mod Tree
+pub mod Handles
 pub mod Codes
 pub mod Paths
 pub mod Walks
@@ -24,6 +25,7 @@ pub mod EditLaws
 pub mod NameLaws
 pub mod Waiting
 pub mod Shapes
+pub mod Settled
 pub mod Replays
 pub mod Allowed
 pub mod AllowedLaws

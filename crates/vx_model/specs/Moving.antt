@@ -11,7 +11,7 @@ use Rattle.vx_model.specs.Paths.{PathEnd, path_end}
 use Rattle.vx_model.specs.Walks.{root, walk, names_of, node_at, file_at, directory_at}
 use Rattle.vx_model.specs.Entering.{Entry, entry_end}
 use Rattle.vx_model.specs.Edits.{add_name, remove_name, drop_node}
-use Rattle.vx_model.specs.Removing.{fine, unlinked}
+use Rattle.vx_model.specs.Removing.{fine, is_last, unlinked}
 
 -- the names begin with these
 abbrev pub begins_with : List FileName → List FileName → Bool
@@ -45,7 +45,7 @@ abbrev pub replace_directory : State → ℕ → Move → ℕ → Directory → 
 replace_directory s place m target d = unless (map.len d.entries == 0) no.NotEmpty (enter (drop_node (cleared s m) place target) m)
 
 abbrev pub replace_file : State → ℕ → Move → ℕ → File → Maybe Done
-replace_file s place m target f = enter (unlinked (cleared s m) place target f) m
+replace_file s place m target f = enter (unlinked (cleared s m) place target (is_last s.tree target f) f) m
 
 -- a directory replaces an empty directory, and a file a file
 abbrev pub replace_by : State → ℕ → Move → ℕ → Node → Maybe Done

@@ -1,12 +1,13 @@
 -- What names mean, and what calls do to them.
-use Rattle.std.specs.Prelude.{◌≡◌, ◌≢◌, ℕ, zero, suc, ◌+◌, ◌-◌, ◌*◌, ◌<◌, ◌==◌, nat_le, List, [], ◌∷◌, ◌++◌, Option, Some, None, Ok, Err, if◌then◌else◌}
+use Rattle.std.specs.Prelude.{◌≡◌, ◌≢◌, ℕ, zero, suc, ◌+◌, ◌-◌, ◌*◌, ◌<◌, ◌==◌, List, [], ◌∷◌, ◌++◌, Option, Some, None, Ok, Err, if◌then◌else◌}
 use Rattle.std.specs.List.{count_by}
 use Rattle.std.specs.FinMap as map
 use Rattle.vx_base.specs.declared.refusal.Refusal.TheVariants as no
 use Rattle.vx_base.specs.Paths.{FileName, split}
-use Rattle.vx_model.specs.Tree.{Nodes, Node, File, Directory, IsFile, IsDirectory}
+use Rattle.vx_model.specs.Tree.{Tree, Nodes, Node, File, Directory, IsFile, IsDirectory}
 use Rattle.vx_model.specs.State.{State}
 use Rattle.vx_model.specs.Naming.{with_mode}
+use Rattle.vx_model.specs.Removing.{is_last}
 use Rattle.vx_model.specs.Walks.{root, walk, inode_of}
 
 -- ---- what a name means
@@ -72,10 +73,10 @@ pub record IsModeSet (old new : Nodes) (path : List ℕ) (mode : ℕ) : Type 0 w
   pub node_is : map.get new ino ≡ Some (with_mode mode node)
   pub others : (n : ℕ) → n ≢ ino → map.get new n ≡ map.get old n
 
--- a node with one name less: a file that has more names stays, and all else goes
-abbrev pub with_name_less : Node → Option Node
-with_name_less (IsFile f) = if nat_le f.nlink 1 then None else Some (IsFile (record f { nlink = f.nlink - 1 }))
-with_name_less (IsDirectory d) = None
+-- a node with one name less: a file that has more names, or on which a handle is open, stays, and all else goes
+abbrev pub with_name_less : Tree → ℕ → Node → Option Node
+with_name_less t ino (IsFile f) = if is_last t ino f then None else Some (IsFile (record f { nlink = f.nlink - 1 }))
+with_name_less t ino (IsDirectory d) = None
 
 -- if the inode was a directory, it is one still, of the same mode
 abbrev pub StaysDirectory : Nodes → Nodes → ℕ → Type 0
@@ -83,41 +84,41 @@ StaysDirectory old new n = (d : Directory) → map.get old n ≡ Some (IsDirecto
 
 -- The path's name means nothing, and each other name means what it meant. Its directory has the name less, its inode is counted
 -- one name less or gone, and nothing else has changed.
-pub record IsRemoved (old new : Nodes) (path : List ℕ) : Type 0 where
+pub record IsRemoved (old : Tree) (new : Nodes) (path : List ℕ) : Type 0 where
   pub at : ℕ
   pub name : FileName
   pub ino : ℕ
-  pub leads : LeadsTo old path at name
-  pub meant : lookup old at name ≡ Some ino
+  pub leads : LeadsTo old.nodes path at name
+  pub meant : lookup old.nodes at name ≡ Some ino
   pub directory : Directory
-  pub was : map.get old at ≡ Some (IsDirectory directory)
+  pub was : map.get old.nodes at ≡ Some (IsDirectory directory)
   pub parent_is : map.get new at ≡ Some (IsDirectory (record directory { entries = map.remove directory.entries name }))
   pub node : Node
-  pub node_was : map.get old ino ≡ Some node
-  pub node_is : map.get new ino ≡ with_name_less node
+  pub node_was : map.get old.nodes ino ≡ Some node
+  pub node_is : map.get new ino ≡ with_name_less old ino node
   pub nothing : inode_of new path ≡ Err no.NoEnt
   pub gone : lookup new at name ≡ None
-  pub others : (q : ℕ) (x : FileName) → IsOther at name q x → lookup new q x ≡ lookup old q x
-  pub nodes : (n : ℕ) → n ≢ at → n ≢ ino → map.get new n ≡ map.get old n
+  pub others : (q : ℕ) (x : FileName) → IsOther at name q x → lookup new q x ≡ lookup old.nodes q x
+  pub nodes : (n : ℕ) → n ≢ at → n ≢ ino → map.get new n ≡ map.get old.nodes n
 
 -- The new name means what the old one meant, the old one nothing, and each other name what it meant. Only the directories and an
 -- inode that had the new name have changed: a directory is still one, of its mode, and the replaced inode is counted one name less
 -- or gone.
-pub record IsRenamed (old new : Nodes) (from to : List ℕ) : Type 0 where
+pub record IsRenamed (old : Tree) (new : Nodes) (from to : List ℕ) : Type 0 where
   pub at : ℕ
   pub name : FileName
   pub ino : ℕ
   pub new_at : ℕ
   pub new_name : FileName
-  pub leads : LeadsTo old from at name
-  pub new_leads : LeadsTo old to new_at new_name
-  pub meant : lookup old at name ≡ Some ino
+  pub leads : LeadsTo old.nodes from at name
+  pub new_leads : LeadsTo old.nodes to new_at new_name
+  pub meant : lookup old.nodes at name ≡ Some ino
   pub means : lookup new new_at new_name ≡ Some ino
   pub gone : lookup new at name ≡ None
-  pub others : (q : ℕ) (x : FileName) → IsOther at name q x → IsOther new_at new_name q x → lookup new q x ≡ lookup old q x
-  pub nodes : (n : ℕ) → n ≢ at → n ≢ new_at → lookup old new_at new_name ≢ Some n → map.get new n ≡ map.get old n
-  pub directories : (n : ℕ) → lookup old new_at new_name ≢ Some n → StaysDirectory old new n
-  pub replaced : (n : ℕ) (node : Node) → lookup old new_at new_name ≡ Some n → map.get old n ≡ Some node → map.get new n ≡ with_name_less node
+  pub others : (q : ℕ) (x : FileName) → IsOther at name q x → IsOther new_at new_name q x → lookup new q x ≡ lookup old.nodes q x
+  pub nodes : (n : ℕ) → n ≢ at → n ≢ new_at → lookup old.nodes new_at new_name ≢ Some n → map.get new n ≡ map.get old.nodes n
+  pub directories : (n : ℕ) → lookup old.nodes new_at new_name ≢ Some n → StaysDirectory old.nodes new n
+  pub replaced : (n : ℕ) (node : Node) → lookup old.nodes new_at new_name ≡ Some n → map.get old.nodes n ≡ Some node → map.get new n ≡ with_name_less old n node
 
 -- the old path means an inode that is the new path's directory, or stands above it: some names or none lead from the one to the other
 pub record GoesIntoItself (nodes : Nodes) (from to : List ℕ) : Type 0 where

@@ -71,14 +71,14 @@ pub fn list_tells()
 
 /// What an unlink or a rmdir removes is gone, and each other name means what it meant.
 pub fn removed_is_gone()
-    ensures unlink { (s : State) (place session : ℕ) (path : List ℕ) (done : Done) → step s place session (call.Unlink path) ≡ Some done → done.reply ≡ say.Fine → IsRemoved s.tree.nodes done.state.tree.nodes path }
-    ensures rmdir { (s : State) (place session : ℕ) (path : List ℕ) (done : Done) → step s place session (call.Rmdir path) ≡ Some done → done.reply ≡ say.Fine → IsRemoved s.tree.nodes done.state.tree.nodes path }
+    ensures unlink { (s : State) (place session : ℕ) (path : List ℕ) (done : Done) → step s place session (call.Unlink path) ≡ Some done → done.reply ≡ say.Fine → IsRemoved s.tree done.state.tree.nodes path }
+    ensures rmdir { (s : State) (place session : ℕ) (path : List ℕ) (done : Done) → step s place session (call.Rmdir path) ≡ Some done → done.reply ≡ say.Fine → IsRemoved s.tree done.state.tree.nodes path }
 {}
 
 /// A rename moves one name, and onto another name of the same inode none.
 pub fn renamed_moves_one_name()
     ensures moves { (s : State) (place session : ℕ) (from to : List ℕ) (done : Done) → step s place session (call.Rename from to) ≡ Some done → done.reply ≡ say.Fine
-        → inode_of s.tree.nodes to ≢ inode_of s.tree.nodes from → IsRenamed s.tree.nodes done.state.tree.nodes from to }
+        → inode_of s.tree.nodes to ≢ inode_of s.tree.nodes from → IsRenamed s.tree done.state.tree.nodes from to }
     ensures stays { (s : State) (place session : ℕ) (from to : List ℕ) (done : Done) → step s place session (call.Rename from to) ≡ Some done → done.reply ≡ say.Fine
         → inode_of s.tree.nodes to ≡ inode_of s.tree.nodes from → done.state ≡ s }
 {}

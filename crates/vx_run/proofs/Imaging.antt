@@ -71,6 +71,8 @@ module _ (d : dev.State) (l : Loaded) (is : IsLoaded d l) where
     mounted = mounted;
     device = is.is.device;
     nothing_waits = is.is.nothing_waits;
+    limit = is.is.limit;
+    stands = λ t shown. (let holds = is.shown t shown in holds.stands);
     mountable = λ t shown. (let holds = is.shown t shown in holds.mountable);
     reads = λ t shown. (let holds = is.shown t shown in holds.reads);
   }

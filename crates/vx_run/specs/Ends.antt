@@ -14,6 +14,8 @@ use Rattle.vx_grammar.specs.declared.why.Why.{Why}
 use Rattle.vx_layout.specs.Supers.{IsSuper, volume_of}
 use Rattle.vx_layout.specs.declared.superblock.Super.{Super}
 use Rattle.vx_model.specs.Allowed.{IsAllowed}
+use Rattle.vx_model.specs.Contents.{parsed_of}
+use Rattle.vx_model.specs.Images.{Stands}
 use Rattle.vx_model.specs.Legal.{World, Phase, Legal, opening, unmounted, at_of, after_all}
 use Rattle.vx_model.specs.Reads.{ImageReadsAs}
 use Rattle.vx_model.specs.Replays.{IsLeft, ReplaysAs}
@@ -77,7 +79,9 @@ pub record IsFoundState (d : dev.State) (sizes : Super) (state : State) : Type 0
   pub mounted : IsMounted sizes state
   pub device : state.layout.device_sectors ≡ d.size
   pub nothing_waits : (b : ℕ) → state.layout.pending b ≡ None
+  pub limit : state.layout.directory_limit ≡ directory_blocks
   pub mountable : (t : dev.Tape) → Shows d t → IsMountable sizes d.size (dev.now t)
+  pub stands : (t : dev.Tape) → Shows d t → Stands (volume_of sizes) (parsed_of state) (dev.now t)
   pub reads : (t : dev.Tape) → Shows d t → ImageReadsAs (volume_of sizes) (dev.now t) state.tree
 
 -- The image of a clean file system is marked as mounted. From the first barrier on, each image that a crash leaves before the history

@@ -36,3 +36,7 @@ unfoldable pub asked_of : List (List ℕ) → Result Asked StartRefusal
 asked_of (verb ∷ image ∷ []) = with_verb (verb_of verb) (Ok logging.DelayLog)
 asked_of (verb ∷ image ∷ option ∷ list ∷ []) = with_verb (verb_of verb) (mode_of option list)
 asked_of _ = Err start.BadWords
+
+-- the words ask for a mount of the image
+abbrev pub AsksMount : List (List ℕ) → Type 0
+AsksMount words = (mode : Logging) × (asked_of words ≡ Ok (record { verb = verb.Mount; logging = mode }))

@@ -4,6 +4,7 @@ ghost use Rattle.std.specs.String.{string_bytes};
 ghost use Rattle.vx_dev.specs.Tape.{State};
 ghost use Rattle.vx_run.specs.Ends.{Asks, IsUnasked, HasEnded, IsRan};
 ghost use Rattle.vx_run.specs.Outcomes.{end_of, HasShortHistory};
+ghost use Rattle.vx_run.specs.Words.{AsksMount};
 
 use crate::begin::{run_on_image, run_on_new};
 use crate::gate::Gate;
@@ -26,7 +27,8 @@ pub struct Ran<D> {
 }
 
 /// Makes a new file system on the device, or mounts the one that is there, as the words ask; takes the turns of the script's sessions
-/// until all are finished, unmounts, and writes the answers. No write of the device may have failed before.
+/// until all are finished, unmounts, and writes the answers. Where the words ask for a mount, no write of the device may have failed
+/// before.
 ///
 /// The exit statuses and what is written are those of docs/OUTPUT.md. A status of 1, 2, 3, 6, 7 or 8 leaves the device as it was.
 pub fn run<R: Threads + Wait + Sync, D: BlockDev + Send, S: Source, K: Sink, G: Gate + Sync>(
@@ -38,7 +40,7 @@ pub fn run<R: Threads + Wait + Sync, D: BlockDev + Send, S: Source, K: Sink, G: 
     out: &mut K,
     _gate: &G,
 ) -> Ran<D>
-    requires certain { (D.state dev).doubt ≡ [] }
+    requires certain { AsksMount (map string_bytes words.now) → (D.state dev).doubt ≡ [] }
     ensures ran { IsRan
         (record { words = map string_bytes words.now; script = S.left script.old; device = D.state dev; script_faults = S.fault_count script.old })
         (D.state result.dev) (S.fault_count script.new)
@@ -111,7 +113,7 @@ fn worked<D: BlockDev, S: Source>(
     dev: D,
     script: &mut S,
 ) -> (Outcome, D)
-    requires certain { (D.state dev).doubt ≡ [] }
+    requires certain { AsksMount (map string_bytes words.now) → (D.state dev).doubt ≡ [] }
     ensures ended { HasEnded
         (record { words = map string_bytes words.now; script = S.left script.old; device = D.state dev; script_faults = S.fault_count script.old })
         (D.state result.1) (S.fault_count script.new) (end_of result.0) }

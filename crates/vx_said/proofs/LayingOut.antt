@@ -1,5 +1,6 @@
 -- The state that a sound image says is laid out, and the image says it.
-use Rattle.std.proofs.Common.{◌≡◌, ℕ, ◌*◌, ◌<◌, ◌≤◌, true, [], Option, Some, None, refl, sym, subst, arith}
+use Rattle.std.proofs.Common.{◌≡◌, ℕ, ◌*◌, ◌<◌, ◌≤◌, true, [], Option, Some, None, refl, sym, subst, arith, lit≤}
+use Rattle.std.specs.Prelude.{IfSome}
 use Rattle.std.specs.Option.{option_map, option_and_then}
 use Rattle.std.specs.FinMap as map_of
 use Rattle.std.proofs.Math.Path.{fun_ext}
@@ -13,15 +14,15 @@ use Rattle.vx_sound.specs.Said.{Image, inode_count, inode_said, claims_below}
 use Rattle.vx_sound.specs.Facts.{AreClaimable}
 use Rattle.vx_sound.specs.Reading.{Parsed, Stands, said, HasWholeBlocks, ReadingLaws, ClaimLaws}
 use Rattle.vx_sound.specs.Sound.{IsSound}
-use Rattle.vx_model.specs.Tree.{Node}
+use Rattle.vx_model.specs.Tree.{Node, Opened, handle_cmp}
 use Rattle.vx_model.specs.State.{State}
 use Rattle.vx_model.specs.Walks.{root}
 use Rattle.vx_model.specs.Legal.{IfThere}
 use Rattle.vx_model.specs.Contents.{parsed_of}
 use Rattle.vx_model.specs.Reads.{node_by, node_said, ImageReadsAs}
-use Rattle.vx_model.specs.LaidOut.{IsDirectoryNode, IsLaidOut}
+use Rattle.vx_model.specs.LaidOut.{IsDirectoryNode, IsFileNode, IsLaidOut, IsPlain}
 use Rattle.vx_said.specs.Plain.{HasPlainFiles}
-use Rattle.vx_said.proofs.States.{state, has_whole_blocks, nodes_are, is_node, held, values_are}
+use Rattle.vx_said.proofs.States.{state, has_whole_blocks, nodes_are, is_node, held, is_plain, values_are}
 use Rattle.vx_said.proofs.Claiming.{once_used, owners_same, forms_same}
 
 -- what is known of an image that passes the check, of these sizes
@@ -74,8 +75,12 @@ module _ (laws : Laws) (v : Super) (device_sectors : ℕ) (image : Image) (is : 
     log_blocks = is.sizes.log_high;
     limit = omega arith;
     room = is.room;
-    rest = refl;
+    handles = λ key. subst (λ (x : Option Opened). IfSome x (λ (o : Opened). IfThere (map_of.get s.tree.nodes o.ino) IsFileNode)) (sym (map_of.get-empty handle_cmp key)) tt;
+    tunables = record { some = lit≤ tt; few = lit≤ tt };
   }
+
+  pub plainly : IsPlain s
+  plainly = is_plain v device_sectors image whole is.sound is.plain
 
   -- all that the image says the state does
   same_said : said w image ≡ parsed_of s

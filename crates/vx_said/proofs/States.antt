@@ -22,15 +22,17 @@ use Rattle.vx_sound.specs.Reading.{HasWholeBlocks}
 use Rattle.vx_sound.specs.Sound.{IsSound}
 use Rattle.vx_extents.specs.Extents.{stretches, chain_len}
 use Rattle.vx_space.specs.Space.{no_space, maps_for}
-use Rattle.vx_model.specs.Tree.{Node, tree_of_nodes}
+use Rattle.vx_model.specs.Tree.{Node, IsFile, tree_of_nodes}
+use Rattle.vx_model.specs.Tree.{File as FileNode}
 use Rattle.vx_model.specs.Layout.{DirectoryBlock, Layout, blocks_at, block_numbers, pages_from, settled_at, settled_maps, first_of}
 use Rattle.vx_model.specs.State.{State}
 use Rattle.vx_model.specs.State as limits
 use Rattle.vx_model.specs.Contents.{settled_of, inode_for, inode_value, places}
 use Rattle.vx_model.specs.Shapes.{kept_attrs}
 use Rattle.vx_model.specs.Reads.{node_by, node_said, entries_from, pages_said, bytes_of}
-use Rattle.vx_model.specs.LaidOut.{HasNothing, IsPlainFile, IsDirectoryOf, IsNodeOf, IsHeld}
+use Rattle.vx_model.specs.LaidOut.{HasNothing, IsPlain, IsPlainFile, IsDirectoryOf, IsNodeOf, IsHeld}
 use Rattle.vx_model.specs.LaidOut as laid
+use Rattle.vx_model.proofs.EditKeeps.{plain_file as without_bytes}
 use Rattle.vx_model.proofs.Spelled.{whole_blocks}
 use Rattle.vx_said.specs.Plain.{HasPlainFiles}
 use Rattle.vx_said.proofs.Stretches.{block_with}
@@ -171,12 +173,28 @@ module _ (v : Super) (device_sectors : ℕ) (image : Image) where
       unfolding bytes_of
       no_bytes kind = ap (bytes_of (block_bytes w image) (pages_said w image i)) (plain_file v image whole sound plain n i e kind).size
 
+      -- what a file is that the image says
+      abbrev said_file : FileNode
+      said_file = record { mode = i.inode.mode; nlink = i.inode.nlink; attrs = i.inode.attrs; bytes = bytes_of (block_bytes w image) (pages_said w image i) i.inode.size }
+
+      pub plain_there : i.inode.kind ≡ File → IsPlainFile said_file × HasNothing layout n
+      plain_there kind = (
+        record { some_links = has_link v image whole sound plain n i e; attrs = (plain_file v image whole sound plain n i e kind).attrs; bytes = no_bytes kind },
+        nothing (all_blocks v image whole sound plain n i e ∙ ap (flat_map said.extent_blocks) (file_extents v image whole sound plain n i e kind)) (file_chain v image whole sound plain n i e kind),
+      )
+
       file_by : i.inode.kind ≡ File → IsNodeOf layout n (node_by File w image n i)
       file_by kind =
-          let f = fields v image whole sound plain n i e in (
-            record { mode = f.mode; some_links = has_link v image whole sound plain n i e; few_links = f.nlink; attrs = (plain_file v image whole sound plain n i e kind).attrs; bytes = no_bytes kind },
-            nothing (all_blocks v image whole sound plain n i e ∙ ap (flat_map said.extent_blocks) (file_extents v image whole sound plain n i e kind)) (file_chain v image whole sound plain n i e kind),
-          )
+          let f = fields v image whole sound plain n i e in
+          let both = plain_there kind in
+          without_bytes layout n said_file f.mode f.nlink both.0 both.1
+
+      plain_by : (k : FileKind) → i.inode.kind ≡ k → (f : FileNode) → Some (node_by k w image n i) ≡ Some (IsFile f) → IsPlainFile f × HasNothing layout n
+      plain_by File kind f same = let e : said_file ≡ f = cc in subst (λ (g : FileNode). IsPlainFile g × HasNothing layout n) e (plain_there kind)
+      plain_by Directory kind f same = absurd cc
+
+      pub plain_node : (f : FileNode) → node_said w image n i ≡ Some (IsFile f) → IsPlainFile f × HasNothing layout n
+      plain_node f there = plain_by i.inode.kind refl f (sym is_node ∙ there)
 
       directory_by : i.inode.kind ≡ Directory → IsDirectoryOf layout n (record { mode = i.inode.mode; entries = entries_from (said.entries_of w image n) })
       directory_by kind = record {
@@ -210,6 +228,14 @@ module _ (v : Super) (device_sectors : ℕ) (image : Image) where
 
     pub held : (n : ℕ) → IsHeld layout n (map_of.get state.tree.nodes n)
     held n = subst (IsHeld layout n) (sym (nodes_are n)) (held_by n (inode_said w image n) refl)
+
+    plain_files_by : (n : ℕ) (o : Option InodeValue) (f : FileNode) → inode_said w image n ≡ o → option_and_then (node_said w image n) o ≡ Some (IsFile f) → IsPlainFile f × HasNothing layout n
+    plain_files_by n None f e there = absurd cc
+    plain_files_by n (Some i) f e there = plain_node n i e f there
+
+    -- no file of the state has bytes
+    pub is_plain : IsPlain state
+    is_plain = record { files = λ n f there. plain_files_by n (inode_said w image n) f refl (sym (nodes_are n) ∙ there); rest = refl }
 
     values_by : (n : ℕ) (o : Option InodeValue) → inode_said w image n ≡ o → option_map (inode_for (settled_of layout n)) (option_and_then (node_said w image n) o) ≡ o
     values_by n None e = refl

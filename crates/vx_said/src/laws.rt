@@ -6,6 +6,7 @@ ghost use Rattle.vx_layout.specs.declared.superblock.Super.{Super};
 ghost use Rattle.vx_sound.specs.Sound.{IsSound};
 ghost use Rattle.vx_model.specs.Layout.{volume};
 ghost use Rattle.vx_model.specs.State.{State};
+ghost use Rattle.vx_model.specs.LaidOut.{IsPlain};
 ghost use Rattle.vx_model.specs.Saying.{IsImageOf};
 ghost use Rattle.vx_said.specs.Plain.{HasPlainFiles};
 ghost use Rattle.vx_said.specs.SaidState.{SaidState};
@@ -24,9 +25,9 @@ pub fn said_state()
     reading_laws();
 }
 
-/// The files of each image that says a laid-out state have none.
+/// The files of each image that says a state without bytes have none.
 pub fn plain_files()
-    ensures { (s : State) (image : ℕ → List ℕ) → IsImageOf s image → HasPlainFiles (volume s.layout) image }
+    ensures { (s : State) (image : ℕ → List ℕ) → IsImageOf s image → IsPlain s → HasPlainFiles (volume s.layout) image }
 {
     state_says();
 }

@@ -68,7 +68,7 @@ module _ (laws : KernelLaws) (v : Super) (s : State) (is_super : IsSuper v) (m :
 
   image_reads : (t : Tape) → Level t → (image : ℕ → List ℕ) → IsImage t image → ImageReadsAs vol image s.tree
   image_reads t l image is = subst (λ (w : Volume). ImageReadsAs w image s.tree) (same_volume v s m)
-      (laws.reads s image m.well_formed.laid_out (subst (λ (w : Volume). images.Stands w (parsed_of s) image) (sym (same_volume v s m)) (image_stands t l image is)))
+      (laws.reads s image m.well_formed.laid_out m.well_formed.plain (subst (λ (w : Volume). images.Stands w (parsed_of s) image) (sym (same_volume v s m)) (image_stands t l image is)))
 
   image_sound : (t : Tape) → Level t → (image : ℕ → List ℕ) → IsImage t image → IsSound false vol image
   image_sound t l image is = subst (λ (w : Volume). IsSound false w image) (same_volume v s m)

@@ -70,7 +70,7 @@ module _ (laws : KernelLaws) where
         room = has_room v s m;
         log = record { serial = r.serial; tail = r.tail; head = r.head; serial_limit = k.serial; limit = k.limit; form = wider_forms (log_size v) (device_size v) s.layout.device_sectors (has_room v s m) r.records k.form; head_is = reads.head_is; ends = reads.ends; fits = reads.fits; whole = reads.whole };
         sound = subst (λ (w : Volume). IsSound false w over) (same_volume v s m) (laws.sound s over m.well_formed (subst (λ (w : Volume). images.Stands w (parsed_of s) over) (sym (same_volume v s m)) stands));
-        reads = subst (λ (w : Volume). ImageReadsAs w over s.tree) (same_volume v s m) (laws.reads s over m.well_formed.laid_out (subst (λ (w : Volume). images.Stands w (parsed_of s) over) (sym (same_volume v s m)) stands));
+        reads = subst (λ (w : Volume). ImageReadsAs w over s.tree) (same_volume v s m) (laws.reads s over m.well_formed.laid_out m.well_formed.plain (subst (λ (w : Volume). images.Stands w (parsed_of s) over) (sym (same_volume v s m)) stands));
       }
 
 -- ---- and is allowed

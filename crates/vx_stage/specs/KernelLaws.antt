@@ -23,7 +23,7 @@ use Rattle.vx_model.specs.AllowedLaws.{AllowedLaws}
 use Rattle.vx_model.specs.Contents.{parsed_of}
 use Rattle.vx_model.specs.Images as images
 use Rattle.vx_model.specs.Images.{Parsed, content_at, is_metadata, Says}
-use Rattle.vx_model.specs.LaidOut.{IsLaidOut}
+use Rattle.vx_model.specs.LaidOut.{IsLaidOut, IsPlain}
 use Rattle.vx_model.specs.Legal.{with_released}
 use Rattle.vx_model.specs.Layout.{volume}
 use Rattle.vx_model.specs.Reads.{ImageReadsAs}
@@ -40,7 +40,7 @@ pub record KernelLaws : Type 0 where
       → content_at (volume_of v) p (block_sector 2 b + i) ≡ option_map (λ x. sector_part i (form_bytes 1024 x)) (p.forms b)
   -- and a block with a form is one of the metadata
   pub formed : (s : State) (b : ℕ) → is_some ((parsed_of s).forms b) ≡ true → IsNamed s b
-  pub reads : (s : State) (image : ℕ → List ℕ) → IsLaidOut s → images.Stands (volume s.layout) (parsed_of s) image → ImageReadsAs (volume s.layout) image s.tree
+  pub reads : (s : State) (image : ℕ → List ℕ) → IsLaidOut s → IsPlain s → images.Stands (volume s.layout) (parsed_of s) image → ImageReadsAs (volume s.layout) image s.tree
   pub sound : (s : State) (image : ℕ → List ℕ) → IsWellFormed s → images.Stands (volume s.layout) (parsed_of s) image → IsSound false (volume s.layout) image
   pub released : (s : State) (upto : ℕ) → parsed_of (with_released s upto) ≡ parsed_of s
   -- ---- batches

@@ -31,7 +31,7 @@ same_touched s = record { same_volume = refl; inodes = λ n no. refl; blocks = �
 
 module _ (m : Meta) (s : State) (is : Stands m s) where
   pub stays : HasGone s s m untouched
-  stays = record { state = is.is; laid_out = is.laid_out; touched = same_touched s }
+  stays = record { state = is.is; laid_out = is.laid_out; plain = is.plain; touched = same_touched s }
 
   -- a call that changes nothing
   pub answered : (chain : Maybe Done) (r reply : Reply) → chain ≡ Ok (record { state = s; reply = r }) → reply ≡ r → IsSettled s chain m untouched reply

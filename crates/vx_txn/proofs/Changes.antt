@@ -8,7 +8,7 @@ use Rattle.vx_base.specs.declared.inode.Inode.{Inode}
 use Rattle.vx_inode.specs.Tables.{Table, inode_at, with_inode, with_change, changed_from}
 use Rattle.vx_model.specs.EditLaws.{EditLaws}
 use Rattle.vx_model.specs.Edits.{set_node}
-use Rattle.vx_model.specs.LaidOut.{IsLaidOut}
+use Rattle.vx_model.specs.LaidOut.{IsLaidOut, IsPlain}
 use Rattle.vx_model.specs.Contents.{settled_of}
 use Rattle.vx_model.specs.Layout.{Layout, blocks_at, maps_at, space_at, is_free}
 use Rattle.vx_model.specs.State.{State}
@@ -139,15 +139,16 @@ touched_inode t n = rw (append-nil t.blocks, append-nil t.maps, append-nil t.uni
 pub touched_entries : (t : Touched) (n i : ℕ) → record t { blocks = t.blocks ++ record { ino = n; index = i } ∷ [] } ≡ joined t (entries_touched n i)
 touched_entries t n i = rw (append-nil t.inodes, append-nil t.maps, append-nil t.units) refl
 
-pub next_gone : (laws : EditLaws) (base s new : State) (m k : Meta) (t u v : Touched) → HasGone base s m t → IsStateOf k new → IsLaidOut new → IsTouched s new u → v ≡ joined t u → HasGone base new k v
-next_gone laws base s new m k t u v gone is laid_out touched same = record {
+pub next_gone : (laws : EditLaws) (base s new : State) (m k : Meta) (t u v : Touched) → HasGone base s m t → IsStateOf k new → IsLaidOut new → IsPlain new → IsTouched s new u → v ≡ joined t u → HasGone base new k v
+next_gone laws base s new m k t u v gone is laid_out plain touched same = record {
   state = is;
   laid_out = laid_out;
+  plain = plain;
   touched = subst (λ (x : Touched). IsTouched base new x) (sym same) (laws.next base s new t u gone.touched touched);
 }
 
 pub stands_of : (base s : State) (m : Meta) (t : Touched) → HasGone base s m t → Stands m s
-stands_of base s m t gone = record { laid_out = gone.laid_out; is = gone.state }
+stands_of base s m t gone = record { laid_out = gone.laid_out; plain = gone.plain; is = gone.state }
 
 -- ---- nothing has changed
 
@@ -171,4 +172,4 @@ unchanged_state m k s same is = record {
 }
 
 pub unchanged_stands : (m k : Meta) (s : State) → IsUnchanged m k → Stands m s → Stands k s
-unchanged_stands m k s same is = record { laid_out = is.laid_out; is = unchanged_state m k s same is.is }
+unchanged_stands m k s same is = record { laid_out = is.laid_out; plain = is.plain; is = unchanged_state m k s same is.is }

@@ -14,7 +14,7 @@ use Rattle.vx_model.specs.Contents.{settled_of}
 use Rattle.vx_model.specs.EditLaws.{EditLaws}
 use Rattle.vx_model.specs.Edits.{drop_node}
 use Rattle.vx_model.specs.Images.{among}
-use Rattle.vx_model.specs.LaidOut.{Owns}
+use Rattle.vx_model.specs.LaidOut.{IsClosed, IsPlain, Owns}
 use Rattle.vx_model.specs.Layout.{Layout, volume, blocks_at, block_numbers, maps_at, space_at, owned, is_owned, is_free, freed, given_up, pages_from}
 use Rattle.vx_model.specs.State.{State}
 use Rattle.vx_model.specs.Touching.{Touched, drop_touched, units_of}
@@ -164,7 +164,7 @@ module _ (m : Meta) (s : State) (is : Stands m s) (at : ℕ) where
       places = waiting.sized.places ∙ ap (λ (v : FreeMapView). 4096 * v.units) waiting.rest ∙ sym is.is.places;
     }
 
-module _ (laws : EditLaws) (give_laws : GiveLaws) (base s : State) (m k : Meta) (t v : Touched) (gone : HasGone base s m t) (at place : ℕ) where
+module _ (laws : EditLaws) (closed : (s : State) (ino : ℕ) → IsPlain s → IsClosed s.tree ino) (give_laws : GiveLaws) (base s : State) (m k : Meta) (t v : Touched) (gone : HasGone base s m t) (at place : ℕ) where
   pub dropped_gone : at < 128 * s.layout.units → at ≢ 2 → k.inodes ≡ without_inode m.inodes at → directory_of k at ≡ None → ((n : ℕ) → n ≢ at → directory_of k n ≡ directory_of m n)
       → k.free ≡ pended place (all_blocks (directory_of m at)) m.free → k.first ≡ m.first
       → v ≡ record t { inodes = t.inodes ++ at ∷ []; units = t.units ++ units_from m.first (all_blocks (directory_of m at)) } → HasGone base (drop_node s place at) k v
@@ -192,5 +192,5 @@ module _ (laws : EditLaws) (give_laws : GiveLaws) (base s : State) (m k : Meta) 
       })
       (subst (λ (f : FreeMapView). FreeAfter m.free f new.layout) (sym free) (blocks_wait m s stands at give_laws low place)) in
       let units : units_of (volume s.layout) (given_up s.layout at) ≡ units_from m.first (all_blocks (directory_of m at)) = λ i. units_from (sym gone.state.first i) (given_is m s stands at i) in
-      next_gone laws base s new m k t (drop_touched s at) v gone state (laws.dropped s place at gone.laid_out other) (laws.dropped_touches s place at gone.laid_out)
+      next_gone laws base s new m k t (drop_touched s at) v gone state (laws.dropped s place at gone.laid_out other (closed s at gone.plain)) (laws.dropped_plain s place at gone.plain) (laws.dropped_touches s place at gone.laid_out)
       (touched ∙ (λ i. record { inodes = t.inodes ++ at ∷ []; blocks = sym (append-nil t.blocks) i; maps = sym (append-nil t.maps) i; units = t.units ++ sym units i }))

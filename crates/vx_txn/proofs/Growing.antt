@@ -196,7 +196,7 @@ module _ (laws : EditLaws) (place_laws : RequestLaws) (space_laws : PlaceLaws) (
   first_extent = s.tree.tunables.initial_extent_size
 
   eight : first_extent ≡ 8
-  eight = ap (λ (x : Tree). x.tunables.initial_extent_size) gone.laid_out.rest
+  eight = ap (λ (x : Tree). x.tunables.initial_extent_size) gone.plain.rest
 
   placed_at : (place_in entry d.names.blocks ≡ i) × (has_place d.names (5 + length name) ≡ true)
   placed_at = answered_place d mine.shape name ino fresh i answer
@@ -429,7 +429,7 @@ module _ (laws : EditLaws) (place_laws : RequestLaws) (space_laws : PlaceLaws) (
       pub grown_gone : v ≡ joined t grown_touched → IsEdited base (add_name s at name ino) k v
       grown_gone touched =
           subst (λ (r : Maybe State). IsEdited base r k v) (sym after_is)
-          (next_gone laws base s after m k t grown_touched v gone grown_state (laid_out_named laws base s m k t v gone at d there name ino after legal fresh low after_is) touches touched)
+          (next_gone laws base s after m k t grown_touched v gone grown_state (laid_out_named laws base s m k t v gone at d there name ino after legal fresh low after_is) (laws.added_plain s after at ino name gone.plain after_is) touches touched)
 
 -- the directory that has grown
 pub record IsGrownAt (e : DirEntry) (d : DirectoryValue) (o : Option DirectoryValue) (free free_new : FreeMapView) : Type 0 where

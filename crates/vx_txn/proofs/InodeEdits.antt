@@ -10,7 +10,7 @@ use Rattle.vx_inode.specs.Tables.{inode_at, with_inode, with_change, links_at, l
 use Rattle.vx_model.specs.EditLaws.{EditLaws}
 use Rattle.vx_model.specs.Edits.{set_node}
 use Rattle.vx_model.specs.Contents.{Held, settled_of}
-use Rattle.vx_model.specs.LaidOut.{IsHeld, IsDirectoryNode}
+use Rattle.vx_model.specs.LaidOut.{IsHeld, IsDirectoryNode, IsPlainFile}
 use Rattle.vx_model.specs.Legal.{IfThere}
 use Rattle.vx_model.specs.Naming.{with_mode}
 use Rattle.vx_model.specs.State.{State}
@@ -57,7 +57,7 @@ module _ (laws : EditLaws) (base s : State) (m k : Meta) (t v : Touched) (gone :
   mode_gone mode node low there inodes =
       next_gone laws base s (set_node s at (with_mode mode node)) m k t (inode_touched at) v gone
       (changed (λ i. record i { mode = mode }) node (with_mode mode node) there inodes (mode_inode (settled_of s.layout at) mode node) (mode_kind (settled_of s.layout at) mode node))
-      (laws.mode_set s at mode node gone.laid_out low there) (laws.set_touches s at (with_mode mode node)) (touched ∙ touched_inode t at)
+      (laws.mode_set s at mode node gone.laid_out low there) (laws.mode_plain s at mode node gone.plain there) (laws.set_touches s at (with_mode mode node)) (touched ∙ touched_inode t at)
 
   kept_file : (f : File) → map.get s.tree.nodes at ≡ Some (IsFile f) → IsHeld s.layout at (Some (IsFile f))
   kept_file f there = subst (IsHeld s.layout at) there (gone.laid_out.nodes at)
@@ -65,16 +65,21 @@ module _ (laws : EditLaws) (base s : State) (m k : Meta) (t v : Touched) (gone :
   not_root : (f : File) → map.get s.tree.nodes at ≡ Some (IsFile f) → at ≢ 2
   not_root f there is = not_root_by f (map.get s.tree.nodes 2) (subst (λ (n : ℕ). map.get s.tree.nodes n ≡ Some (IsFile f)) is there) gone.laid_out.has_root
 
+  plain_links : (f : File) (links : ℕ) → 1 ≤ links → IsPlainFile f → IsPlainFile (record f { nlink = links })
+  plain_links f links some plain = record { some_links = some; attrs = plain.attrs; bytes = plain.bytes }
+
   -- a file with another number of names
   pub links_gone : (links : ℕ) (f : File) → 1 ≤ links → links ≤ 32767 → map.get s.tree.nodes at ≡ Some (IsFile f) → k.inodes ≡ with_inode m.inodes at (inode_of_node (settled_of s.layout at) (IsFile (record f { nlink = links })))
       → HasGone base (set_node s at (IsFile (record f { nlink = links }))) k v
   links_gone links f some few there inodes =
       let held = kept_file f there in
-      let plain = held.0.0 in
+      let bare = gone.plain.files at f there in
+      let less = plain_links f links some bare.0 in
       let new : Node = IsFile (record f { nlink = links }) in
       next_gone laws base s (set_node s at new) m k t (inode_touched at) v gone
       (changed (λ i. inode_of_node (settled_of s.layout at) new) (IsFile f) new there (inodes ∙ sym (change_at m.inodes at (λ i. inode_of_node (settled_of s.layout at) new) (inode_of_node (settled_of s.layout at) (IsFile f)) (inode_there (IsFile f) there))) refl refl)
-      (laws.file_set s at (record f { nlink = links }) gone.laid_out (record { mode = plain.mode; some_links = some; few_links = few; attrs = plain.attrs; bytes = plain.bytes }) (not_root f there) held.1 held.2 held.0.1)
+      (laws.file_set s at (record f { nlink = links }) gone.laid_out (laws.plain_file s.layout at (record f { nlink = links }) held.0.mode few less bare.1) (not_root f there) held.1 held.2)
+      (laws.file_plain s at (record f { nlink = links }) gone.plain less bare.1)
       (laws.set_touches s at new) (touched ∙ touched_inode t at)
 
   links_are : (f : File) → map.get s.tree.nodes at ≡ Some (IsFile f) → links_at m.inodes at ≡ f.nlink
@@ -93,7 +98,6 @@ module _ (laws : EditLaws) (base s : State) (m k : Meta) (t v : Touched) (gone :
   pub unlink_gone : (f : File) → map.get s.tree.nodes at ≡ Some (IsFile f) → 1 < links_at m.inodes at → k.inodes ≡ with_change m.inodes at (λ i. record i { nlink = i.nlink - 1 }) → HasGone base (set_node s at (IsFile (record f { nlink = f.nlink - 1 }))) k v
   unlink_gone f there some inodes =
       let links = links_are f there in
-      let plain = (kept_file f there).0.0 in
-      let most : f.nlink ≤ 32767 = plain.few_links in
+      let most : f.nlink ≤ 32767 = (kept_file f there).0.few_links in
       links_gone (f.nlink - 1) f (omega arith) (omega arith) there
       (inodes ∙ change_at m.inodes at (λ i. record i { nlink = i.nlink - 1 }) (inode_of_node (settled_of s.layout at) (IsFile f)) (inode_there (IsFile f) there))

@@ -277,7 +277,6 @@ loading = record { none = none_passed; whole = all_loaded }
 -- ---- a file
 
 pub record FileFacts (s : State) (n : ℕ) (inode : Inode) : Type 0 where
-  pub nothing : HasNothing s.layout n
   pub low : 2 ≤ n
   pub high : n < 128 * s.layout.units
   pub links : inode.nlink ≤ 32767
@@ -287,7 +286,7 @@ file_by s n h None inode held is k = absurd (none-some inode is)
 file_by s n h (Some (IsFile f)) inode held is k =
     let e : inode_of_node h (IsFile f) ≡ inode = same_Some _ _ is in
     let links : f.nlink ≡ inode.nlink = ap (λ (i : Inode). i.nlink) e in
-    record { nothing = held.0.1; low = held.1; high = held.2; links = subst (λ (x : ℕ). x ≤ 32767) links held.0.0.few_links }
+    record { low = held.1; high = held.2; links = subst (λ (x : ℕ). x ≤ 32767) links held.0.few_links }
 file_by s n h (Some (IsDirectory t)) inode held is k =
     let e : inode_of_node h (IsDirectory t) ≡ inode = same_Some _ _ is in
     let other : kind.Directory ≡ inode.kind = ap (λ (i : Inode). i.kind) e in
@@ -299,7 +298,7 @@ module _ (s : State) (n : ℕ) (inode : Inode) (laid : IsLaidOut s) (there : IsF
 
   pub file_loaded : (m k : Meta) → IsLoadedTo s n m → k.inodes ≡ with_inode m.inodes n inode → ((q : ℕ) → directory_of k q ≡ directory_of m q) → k.free ≡ m.free → k.first ≡ m.first → IsLoadedTo s (n + 1) k
   file_loaded m k is inodes directories free first =
-      let nothing = file_facts.nothing in
+      let nothing = there.nothing in
       loaded_more m k s n is inode None there.inode_is inodes (directories n ∙ none_yet m s n is n (omega arith)) (λ q ne. directories q) there.kind_is (no_blocks s.layout n nothing) (no_maps s.layout n nothing)
       (λ b. ap (λ (f : FreeMapView). is_free_block f b) free ∙ sym (ap (λ (x : Bool). is_free_block m.free b && not x) (none_owned s.layout n nothing b) ∙ and_all (is_free_block m.free b)))
       (subst (HasTaken m.free) (sym free) (record { rest = refl; bits = refl })) first

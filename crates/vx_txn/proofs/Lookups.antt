@@ -88,10 +88,7 @@ held_node s n node laid found =
     let held = subst (λ o. IsHeld s.layout n o) found (laid.nodes n) in
     record { kept = held.0; low = held.1; high = held.2 }
 
--- a file has nothing on the device
 pub record IsHeldFile (l : Layout) (n : ℕ) (f : File) : Type 0 where
-  pub plain : IsPlainFile f
-  pub nothing : HasNothing l n
   pub low : 2 ≤ n
   pub high : n < 128 * l.units
   pub not_root : n ≢ root
@@ -103,8 +100,6 @@ pub held_file : (s : State) (n : ℕ) (f : File) → IsLaidOut s → map.get s.t
 held_file s n f laid found =
     let held = held_node s n (IsFile f) laid found in
     record {
-      plain = held.kept.0;
-      nothing = held.kept.1;
       low = held.low;
       high = held.high;
       not_root = λ same. root_is_none (map.get s.tree.nodes root) f laid.has_root (ap (map.get s.tree.nodes) (sym same) ∙ found);
@@ -134,7 +129,7 @@ removed_blocks s at name n other = removed_blocks_in s at name (directory_at s.t
 -- ---- the metadata in memory
 
 pub stands_of : (base s : State) (m : Meta) (t : Touched) → HasGone base s m t → Stands m s
-stands_of base s m t gone = record { laid_out = gone.laid_out; is = gone.state }
+stands_of base s m t gone = record { laid_out = gone.laid_out; plain = gone.plain; is = gone.state }
 
 pub sound_of : (s : State) (m : Meta) → Stands m s → IsSound m
 sound_of s m stands = record { state = s; stands = stands }
@@ -143,7 +138,7 @@ same_touched : (s : State) → IsTouched s s untouched
 same_touched s = record { same_volume = refl; inodes = λ n h. refl; blocks = λ n i d h got. got; maps = λ n k c h got. got; units = λ u j l h. refl }
 
 pub begun : (s : State) (m : Meta) (t : Touched) → Stands m s → t ≡ untouched → HasGone s s m t
-begun s m t stands empty = record { state = stands.is; laid_out = stands.laid_out; touched = subst (IsTouched s s) (sym empty) (same_touched s) }
+begun s m t stands empty = record { state = stands.is; laid_out = stands.laid_out; plain = stands.plain; touched = subst (IsTouched s s) (sym empty) (same_touched s) }
 
 pub refused : (s : State) (chain : Maybe Done) (m : Meta) (t : Touched) (why : Refusal) → Stands m s → t ≡ untouched → chain ≡ Err why → IsSettled s chain m t (say.Refused why)
 refused s chain m t why stands empty is =

@@ -1,5 +1,5 @@
 -- What the metadata say of blocks and inodes.
-use Rattle.std.proofs.Common.{◌≡◌, ◌≢◌, ℕ, zero, suc, ◌+◌, ◌-◌, ◌*◌, ◌%◌, ◌<◌, ◌≤◌, Bool, true, false, cond, not, ◌&&◌, List, [], ◌∷◌, ◌++◌, map, take, length, Option, Some, None, refl, sym, ◌∙◌, ap, subst, arith, inl, inr, get_or, replicate, lit<, lit≤}
+use Rattle.std.proofs.Common.{◌≡◌, ◌≢◌, ℕ, zero, suc, ◌+◌, ◌-◌, ◌*◌, ◌%◌, ◌<◌, ◌≤◌, Bool, true, false, cond, not, ◌&&◌, List, [], ◌∷◌, ◌++◌, map, take, length, Option, Some, None, refl, sym, ◌∙◌, ap, subst, arith, inl, inr, get_or, replicate, lit<, lit≤, IfSome}
 use Rattle.std.specs.Prelude.{Result, Ok, Err, IfOk, OnErr, ◌||◌, is_none, is_some, nat_lt, nat_le}
 use Rattle.std.specs.Option.{option_map}
 use Rattle.std.specs.FinMap as map
@@ -18,13 +18,13 @@ use Rattle.vx_extents.specs.Extents.{stretches}
 use Rattle.vx_inode.specs.Tables.{Table, inode_at}
 use Rattle.vx_layout.specs.Places.{is_data}
 use Rattle.vx_model.specs.Contents.{Held, inode_value, inode_for, settled_of, value_of}
-use Rattle.vx_model.specs.LaidOut.{IsLaidOut, IsHeld, IsDirectoryNode}
+use Rattle.vx_model.specs.LaidOut.{IsLaidOut, IsHeld, IsDirectoryNode, IsFileNode}
 use Rattle.vx_model.specs.Layout.{Layout, volume, is_free, is_owned, is_owned_below, kept_pending, owned, pages_from, settled_at, settled_maps}
 use Rattle.vx_model.specs.Layout as layout
 use Rattle.vx_model.specs.Legal.{with_released, IfThere}
 use Rattle.vx_model.specs.State.{State, Done, fresh}
 use Rattle.vx_model.specs.Touching.{Touched}
-use Rattle.vx_model.specs.Tree.{Node, IsFile, IsDirectory, new_directory, no_attrs}
+use Rattle.vx_model.specs.Tree.{Node, Opened, handle_cmp, IsFile, IsDirectory, new_directory, no_attrs}
 use Rattle.vx_space.specs.Space.{maps_for}
 use Rattle.std.specs.declared.alloc.AllocError.{AllocError}
 use Rattle.vx_txn.specs.Calls.{IsDone}
@@ -287,12 +287,13 @@ fresh_laid_out log_blocks device_sectors few room = record {
   log_blocks = few;
   limit = lit≤ tt;
   room = omega (arith, room);
-  rest = refl;
+  handles = λ key. subst (λ (x : Option Opened). IfSome x (λ (o : Opened). IfThere (map.get (fresh log_blocks 64 device_sectors).tree.nodes o.ino) IsFileNode)) (sym (map.get-empty handle_cmp key)) tt;
+  tunables = record { some = lit≤ tt; few = lit≤ tt };
 }
 
 sound_by : (s : State) (o : Option Done) (k : Meta) (v : Touched) (reply : Reply) → IfThere o (λ done. IsDone s done k v reply) → IsSound k
 sound_by s None k v reply done = absurd done
-sound_by s (Some d) k v reply done = record { state = d.state; stands = record { laid_out = done.gone.laid_out; is = done.gone.state } }
+sound_by s (Some d) k v reply done = record { state = d.state; stands = record { laid_out = done.gone.laid_out; plain = done.gone.plain; is = done.gone.state } }
 
 pub still_sound : (m k : Meta) (s : State) (o : Option Done) (v : Touched) (r : Result (Reply × Reply) AllocError) → Stands m s → IfOk r (λ replies. IfThere o (λ done. IsDone s done k v replies.0)) → OnErr r (IsUnchanged m k) → IsSound k
 still_sound m k s o v (Ok replies) is done same = sound_by s o k v replies.0 done

@@ -139,13 +139,10 @@ module _ (s : State) (at : ℕ) (name : FileName) (ino : ℕ) where
         (λ d. put_in d (add_entry s.layout first_extent at entry))
 
   -- or a file loses a name
-  pub added_unlinked : (place t : ℕ) (f : File) → at ≢ t → IsFilled (with_entry (blocks_at s.layout at) entry) → add_name (unlinked s place t f) at name ino ≡ (add_name s at name ino >>= (λ added. Ok (unlinked added place t f)))
-  added_unlinked place t f ne room = either_links (leb f.nlink 1)
-    where
-      either_links : (last : Bool) → add_name (cond last (drop_node s place t) (set_node s t (IsFile (record f { nlink = f.nlink - 1 })))) at name ino
-          ≡ (add_name s at name ino >>= (λ added. Ok (cond last (drop_node added place t) (set_node added t (IsFile (record f { nlink = f.nlink - 1 }))))))
-      either_links true = added_dropped place t ne room
-      either_links false = added_put t (IsFile (record f { nlink = f.nlink - 1 })) ne
+  pub added_unlinked : (place t : ℕ) (last : Bool) (f : File) → at ≢ t → IsFilled (with_entry (blocks_at s.layout at) entry)
+      → add_name (unlinked s place t last f) at name ino ≡ (add_name s at name ino >>= (λ added. Ok (unlinked added place t last f)))
+  added_unlinked place t true f ne room = added_dropped place t ne room
+  added_unlinked place t false f ne room = added_put t (IsFile (record f { nlink = f.nlink - 1 })) ne
 
 -- ---- a name that goes leaves room for an entry of the same name
 

@@ -302,7 +302,7 @@ module _ (laws : EditLaws) (base s : State) (m k : Meta) (t v : Touched) (gone :
       ap (remove_name_in s at name) is_directory
       ∙ ap (λ (bs : List DirectoryBlock). record { tree = with_nodes s.tree (map.insert s.tree.nodes at (IsDirectory tree)); layout = with_blocks s.layout at bs }) blocks in
       let state = filled_is tree names refl refl refl count here other inodes free first in
-      next_gone laws base s (remove_name s at name) m k t (entries_touched at i) v gone (subst (λ (x : State). IsStateOf k x) (sym is) state) (laws.removed s at name gone.laid_out)
+      next_gone laws base s (remove_name s at name) m k t (entries_touched at i) v gone (subst (λ (x : State). IsStateOf k x) (sym is) state) (laws.removed s at name gone.laid_out) (laws.removed_plain s at name gone.plain)
       (laws.removed_touches s at i name gone.laid_out (subst (IsOnlyIn name i) (sym old_blocks) only)) (touched ∙ touched_entries t at i)
 
   -- ---- a name more
@@ -363,7 +363,7 @@ module _ (laws : EditLaws) (base s : State) (m k : Meta) (t v : Touched) (gone :
         (ap (λ (c : Bool). cond c (entries_touched at (room_place (blocks_at s.layout at) named)) (new_touched after)) same ∙ ap (entries_touched at) room)
         (laws.added_touches s after at ino name gone.laid_out is) in
         subst (λ (r : Maybe State). IsEdited base r k v) (sym is)
-        (next_gone laws base s after m k t (entries_touched at i) v gone state (laid_out_named after legal new low is) touches (touched ∙ touched_entries t at i))
+        (next_gone laws base s after m k t (entries_touched at i) v gone state (laid_out_named after legal new low is) (laws.added_plain s after at ino name gone.plain is) touches (touched ∙ touched_entries t at i))
       where
         new_touched : State → Touched
         new_touched after = record {

@@ -18,7 +18,7 @@ use Rattle.vx_inode.specs.declared.table.MakeRefusal.TheVariants as make
 use Rattle.vx_model.specs.Contents.{Held, settled_of}
 use Rattle.vx_model.specs.EditLaws.{EditLaws}
 use Rattle.vx_model.specs.Edits.{set_node}
-use Rattle.vx_model.specs.LaidOut.{IsHeld, HasNothing, IsLaidOut}
+use Rattle.vx_model.specs.LaidOut.{IsHeld, HasNothing, IsLaidOut, IsPlain}
 use Rattle.vx_model.specs.Layout.{Layout, blocks_at, maps_at}
 use Rattle.vx_model.specs.State.{State}
 use Rattle.vx_model.specs.Touching.{Touched, inode_touched}
@@ -163,8 +163,13 @@ nothing_by l n (Some node) held none = absurd (none-some node (sym none))
 
 new_laid_out : (laws : EditLaws) (s : State) (n mode : ℕ) (k : FileKind) → IsLaidOut s → mode ≤ 4095 → 3 ≤ n → n < 128 * s.layout.units → map.get s.tree.nodes n ≡ None → HasNothing s.layout n → IsLaidOut (set_node s n (new_node k mode))
 new_laid_out laws s n mode kind.File laid low from high none blocks =
-    laws.file_set s n (record { mode = mode; nlink = 1; attrs = no_attrs; bytes = [] }) laid (record { mode = low; some_links = omega arith; few_links = omega arith; attrs = refl; bytes = refl }) (λ e. absurd (omega arith)) (omega arith) high blocks
+    laws.file_set s n (record { mode = mode; nlink = 1; attrs = no_attrs; bytes = [] }) laid (laws.plain_file s.layout n (record { mode = mode; nlink = 1; attrs = no_attrs; bytes = [] }) low (omega arith) (record { some_links = omega arith; attrs = refl; bytes = refl }) blocks)
+    (λ e. absurd (omega arith)) (omega arith) high
 new_laid_out laws s n mode kind.Directory laid low from high none blocks = laws.directory_set s n mode laid low (omega arith) high none
+
+new_plain : (laws : EditLaws) (s : State) (n mode : ℕ) (k : FileKind) → IsPlain s → HasNothing s.layout n → IsPlain (set_node s n (new_node k mode))
+new_plain laws s n mode kind.File plain none = laws.file_plain s n (record { mode = mode; nlink = 1; attrs = no_attrs; bytes = [] }) plain (record { some_links = omega arith; attrs = refl; bytes = refl }) none
+new_plain laws s n mode kind.Directory plain none = laws.directory_plain s n mode plain
 
 module _ (laws : EditLaws) (base s : State) (m k : Meta) (t v : Touched) (gone : HasGone base s m t) (at : ℕ) where
   pub made_gone : (f : FileKind) (mode : ℕ) → mode ≤ 4095 → 3 ≤ at → at < 128 * m.inodes.units → inode_at m.inodes at ≡ None → k.inodes ≡ with_inode m.inodes at (new_inode f mode)
@@ -189,6 +194,7 @@ module _ (laws : EditLaws) (base s : State) (m k : Meta) (t v : Touched) (gone :
       (blocks ∙ sym (ap blocks_in value ∙ new_blocks f)) (maps ∙ sym (ap maps_in value ∙ new_maps f))
       (subst (λ (x : Option Inode). HasDirectory x (directory_of k at)) (sym there) (subst (λ (o : Option DirectoryValue). HasDirectory (Some i) o) (sym value) (new_kind h f mode))))
       (new_laid_out laws s at mode f gone.laid_out low from (subst (λ (u : ℕ). at < 128 * u) (sym gone.state.units) high) absent nothing)
+      (new_plain laws s at mode f gone.plain nothing)
       (laws.set_touches s at node) (touched ∙ touched_inode t at)
 
 -- an inode that is taken back

@@ -1,6 +1,6 @@
 -- An entry that moves.
 use Rattle.std.proofs.Common.{◌≡◌, ◌≢◌, ℕ, Bool, true, false, not, cond, List, [], ◌∷◌, ◌++◌, length, Option, Some, None, Ok, Err, inl, inr, refl, sym, ◌∙◌, ap, subst}
-use Rattle.std.specs.Prelude.{◌==◌}
+use Rattle.std.specs.Prelude.{◌==◌, nat_le}
 use Rattle.std.specs.Option.{option_map}
 use Rattle.std.proofs.lemmas.Bool.{cases_eq, eqb-true}
 use Rattle.std.proofs.lemmas.Option.{same_Some}
@@ -18,7 +18,7 @@ use Rattle.vx_model.specs.Tree.{Nodes, Node, File, Directory, IsFile, IsDirector
 use Rattle.vx_model.specs.State.{State}
 use Rattle.vx_model.specs.Walks.{root, walk, node_at, directory_at, file_at, step_to}
 use Rattle.vx_model.specs.Edits.{add_name, remove_name, without_name, drop_node}
-use Rattle.vx_model.specs.Removing.{fine}
+use Rattle.vx_model.specs.Removing.{fine, is_last, unlinked}
 use Rattle.vx_model.specs.Entering.{Entry, entry_at}
 use Rattle.vx_model.specs.Paths.{PathEnd, path_end, path_end_from}
 use Rattle.vx_model.specs.Moving.{Move, enter, cleared, replace_by, replace_file, replace_directory, move_onto, move_into, move_node, move_to, move_entry, move_ends, rename_along, is_below}
@@ -75,7 +75,7 @@ removed_name s n name d found = record {
 pub added_unnamed : (s : State) (from : ℕ) (old : FileName) (at : ℕ) (name : FileName) (ino place t : ℕ) (node : Node) (d : Directory) → IsLaidOut s → at ≢ t → map.get s.tree.nodes at ≡ Some (IsDirectory d) → map.get d.entries name ≡ Some t
     → add_name (unnamed (remove_name (remove_name s from old) at name) place t node) at name ino ≡ (add_name (remove_name (remove_name s from old) at name) at name ino >>= (λ added. Ok (unnamed added place t node)))
 added_unnamed s from old at name ino place t (IsFile f) d laid ne found has =
-    added_unlinked (remove_name (remove_name s from old) at name) at name ino place t f ne (room_still s at d name t laid found has from old ino)
+    added_unlinked (remove_name (remove_name s from old) at name) at name ino place t (nat_le f.nlink 1) f ne (room_still s at d name t laid found has from old ino)
 added_unnamed s from old at name ino place t (IsDirectory e) d laid ne found has =
     added_dropped (remove_name (remove_name s from old) at name) at name ino place t ne (room_still s at d name t laid found has from old ino)
 
@@ -102,11 +102,15 @@ empty_ok : (nodes : Nodes) (t : ℕ) (m : Maybe Directory) → directory_at node
 empty_ok nodes t (Err why) at is = absurd cc
 empty_ok nodes t (Ok d) at is = record { directory = d; directory_is = at; empty = test_ok (map.len d.entries == 0) is }
 
-pub replaced : (s : State) (place : ℕ) (m : Move) (t : ℕ) (node : Node) → replaceable s.tree.nodes (kind_of node) t ≡ allowed → IsReplaced s place m t node
-replaced s place m t (IsFile f) may =
+pub replaced : (s : State) (place : ℕ) (m : Move) (t : ℕ) (node : Node) → ((f : File) → is_last s.tree t f ≡ nat_le f.nlink 1) → replaceable s.tree.nodes (kind_of node) t ≡ allowed → IsReplaced s place m t node
+replaced s place m t (IsFile f) last may =
     let g = file_ok (file_at s.tree.nodes t) may in
-    record { old = IsFile g.0; found = file_node s.tree.nodes t g.0 g.1; is = ap (λ (x : Maybe File). x >>= replace_file s place m t) g.1 }
-replaced s place m t (IsDirectory d) may =
+    record {
+      old = IsFile g.0;
+      found = file_node s.tree.nodes t g.0 g.1;
+      is = ap (λ (x : Maybe File). x >>= replace_file s place m t) g.1 ∙ ap (λ (b : Bool). enter (unlinked (cleared s m) place t b g.0) m) (last g.0);
+    }
+replaced s place m t (IsDirectory d) last may =
     let e = empty_ok s.tree.nodes t (directory_at s.tree.nodes t) refl may in
     record {
       old = IsDirectory e.directory;

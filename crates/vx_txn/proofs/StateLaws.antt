@@ -13,7 +13,7 @@ use Rattle.vx_dir.specs.Directories.{all_entries, inode_of}
 use Rattle.vx_extents.specs.Extents.{Mapped}
 use Rattle.vx_inode.specs.Tables.{inode_at}
 use Rattle.vx_model.specs.Contents.{Held, inode_for, settled_of}
-use Rattle.vx_model.specs.LaidOut.{IsHeld, HasNothing, IsDirectoryOf, IsPlainFile, entries_of}
+use Rattle.vx_model.specs.LaidOut.{IsHeld, HasNothing, IsFileOf, IsDirectoryOf, IsPlainFile, entries_of}
 use Rattle.vx_model.specs.Layout.{Layout, DirectoryBlock, blocks_at, maps_at, space_at}
 use Rattle.vx_model.specs.Outcome.{need}
 use Rattle.vx_model.specs.Reads.{entries_from}
@@ -68,24 +68,30 @@ pub record FileHere (l : Layout) (n : ℕ) (o : Option Inode) (stands : Option N
   pub file : File
   pub inode_there : o ≡ Some (inode_of_node (settled_of l n) (IsFile file))
   pub node_there : stands ≡ Some (IsFile file)
+  pub is : IsFileOf l n file
   pub plain : IsPlainFile file
   pub nothing : HasNothing l n
   pub low : 2 ≤ n
   pub high : n < 128 * l.units
 
-file_by : (l : Layout) (n : ℕ) (o : Option Inode) (stands : Option Node) (i : Inode) → IsHeld l n stands → o ≡ inode_of_option (settled_of l n) stands → HasDirectory o None → o ≡ Some i → FileHere l n o stands
-file_by l n None stands i held is has there = absurd (none-some i there)
-file_by l n (Some j) None i held is has there = absurd (none-some j (sym is))
-file_by l n (Some j) (Some (IsDirectory t)) i held is has there =
+-- a file has no bytes and nothing on the device
+abbrev IsBare : Layout → ℕ → Option Node → Type 0
+IsBare l n stands = (f : File) → stands ≡ Some (IsFile f) → IsPlainFile f × HasNothing l n
+
+file_by : (l : Layout) (n : ℕ) (o : Option Inode) (stands : Option Node) (i : Inode) → IsBare l n stands → IsHeld l n stands → o ≡ inode_of_option (settled_of l n) stands → HasDirectory o None → o ≡ Some i → FileHere l n o stands
+file_by l n None stands i bare held is has there = absurd (none-some i there)
+file_by l n (Some j) None i bare held is has there = absurd (none-some j (sym is))
+file_by l n (Some j) (Some (IsDirectory t)) i bare held is has there =
     let e : j ≡ inode_of_node (settled_of l n) (IsDirectory t) = same_Some _ _ is in
     let k = ap (λ (x : Inode). x.kind) e in
     absurd (cc (has, k))
-file_by l n (Some j) (Some (IsFile f)) i held is has there = record {
+file_by l n (Some j) (Some (IsFile f)) i bare held is has there = record {
   file = f;
   inode_there = is;
   node_there = refl;
-  plain = held.0.0;
-  nothing = held.0.1;
+  is = held.0;
+  plain = (bare f refl).0;
+  nothing = (bare f refl).1;
   low = held.1;
   high = held.2;
 }
@@ -94,11 +100,11 @@ none_by : (h : Held) (o : Option Inode) (stands : Option Node) → o ≡ inode_o
 none_by h o None is none = refl
 none_by h o (Some node) is none = absurd (none-some _ (sym none ∙ is))
 
-nothing_by : (l : Layout) (n : ℕ) (o : Option Inode) (stands : Option Node) → IsHeld l n stands → o ≡ inode_of_option (settled_of l n) stands → HasDirectory o None → HasNothing l n
-nothing_by l n o None held is has = held
-nothing_by l n o (Some (IsFile f)) held is has = held.0.1
-nothing_by l n None (Some (IsDirectory t)) held is has = absurd (none-some _ (is))
-nothing_by l n (Some j) (Some (IsDirectory t)) held is has =
+nothing_by : (l : Layout) (n : ℕ) (o : Option Inode) (stands : Option Node) → IsBare l n stands → IsHeld l n stands → o ≡ inode_of_option (settled_of l n) stands → HasDirectory o None → HasNothing l n
+nothing_by l n o None bare held is has = held
+nothing_by l n o (Some (IsFile f)) bare held is has = (bare f refl).1
+nothing_by l n None (Some (IsDirectory t)) bare held is has = absurd (none-some _ (is))
+nothing_by l n (Some j) (Some (IsDirectory t)) bare held is has =
     let e : j ≡ inode_of_node (settled_of l n) (IsDirectory t) = same_Some _ _ is in
     let k = ap (λ (x : Inode). x.kind) e in
     absurd (cc (has, k))
@@ -125,11 +131,11 @@ module _ (m : Meta) (s : State) (is : Stands m s) where
 
   pub file_here : (n : ℕ) (i : Inode) → inode_at m.inodes n ≡ Some i → directory_of m n ≡ None → FileHere s.layout n (inode_at m.inodes n) (map.get s.tree.nodes n)
   file_here n i there none =
-      file_by s.layout n (inode_at m.inodes n) (map.get s.tree.nodes n) i (is.laid_out.nodes n) (held n) (subst (HasDirectory (inode_at m.inodes n)) none (is.is.kinds n)) there
+      file_by s.layout n (inode_at m.inodes n) (map.get s.tree.nodes n) i (is.plain.files n) (is.laid_out.nodes n) (held n) (subst (HasDirectory (inode_at m.inodes n)) none (is.is.kinds n)) there
 
   -- what is no directory has nothing on the device
   pub nothing_here : (n : ℕ) → directory_of m n ≡ None → HasNothing s.layout n
-  nothing_here n none = nothing_by s.layout n (inode_at m.inodes n) (map.get s.tree.nodes n) (is.laid_out.nodes n) (held n) (subst (HasDirectory (inode_at m.inodes n)) none (is.is.kinds n))
+  nothing_here n none = nothing_by s.layout n (inode_at m.inodes n) (map.get s.tree.nodes n) (is.plain.files n) (is.laid_out.nodes n) (held n) (subst (HasDirectory (inode_at m.inodes n)) none (is.is.kinds n))
 
   pub none_here : (n : ℕ) → inode_at m.inodes n ≡ None → map.get s.tree.nodes n ≡ None
   none_here n none = none_by (settled_of s.layout n) (inode_at m.inodes n) (map.get s.tree.nodes n) (held n) none

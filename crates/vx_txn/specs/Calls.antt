@@ -5,7 +5,7 @@ use Rattle.vx_base.specs.declared.call.Call.TheVariants as call
 use Rattle.vx_base.specs.declared.reply.Reply.{Reply}
 use Rattle.vx_model.specs.Outcome.{Maybe}
 use Rattle.vx_model.specs.State.{State, Done, settled}
-use Rattle.vx_model.specs.LaidOut.{IsLaidOut}
+use Rattle.vx_model.specs.LaidOut.{IsLaidOut, IsPlain}
 use Rattle.vx_model.specs.Touching.{Touched, IsTouched}
 use Rattle.vx_txn.specs.declared.meta.Meta.{Meta}
 use Rattle.vx_txn.specs.Metas.{IsStateOf}
@@ -21,6 +21,7 @@ HasMode _ = Unit {0}
 pub record HasGone (s new : State) (m : Meta) (t : Touched) : Type 0 where
   pub state : IsStateOf m new
   pub laid_out : IsLaidOut new
+  pub plain : IsPlain new
   pub touched : IsTouched s new t
 
 -- the call was done

@@ -18,7 +18,7 @@ use Rattle.vx_filemaps.specs.Loads.{IsNext, extent_pages, with_extent}
 use Rattle.vx_inode.specs.Tables.{inode_at}
 use Rattle.vx_layout.specs.Places.{is_data}
 use Rattle.vx_model.specs.Contents.{inode_value}
-use Rattle.vx_model.specs.LaidOut.{IsLaidOut, entries_of}
+use Rattle.vx_model.specs.LaidOut.{HasNothing, IsLaidOut, entries_of}
 use Rattle.vx_model.specs.Layout.{DirectoryBlock, blocks_at, is_owned_below, maps_at, settled_at, settled_maps, volume}
 use Rattle.vx_model.specs.State.{State}
 use Rattle.vx_space.specs.Space.{no_space}
@@ -51,10 +51,11 @@ pub record IsLoadedTo (s : State) (n : ℕ) (m : Meta) : Type 0 where
 
 -- ---- what is read of an inode
 
--- the state has a file at the number, with this inode
+-- the state has a file at the number, with this inode and without a block
 pub record IsFileThere (s : State) (n : ℕ) (inode : Inode) : Type 0 where
   pub inode_is : inode_in s n ≡ Some inode
   pub kind_is : inode.kind ≡ kind.File
+  pub nothing : HasNothing s.layout n
 
 abbrev pub entries_by_block : List DirectoryBlock → List Entries
 entries_by_block blocks = map (λ (d : DirectoryBlock). d.entries) blocks

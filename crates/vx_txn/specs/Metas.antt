@@ -9,7 +9,7 @@ use Rattle.vx_inode.specs.Tables.{inode_at}
 use Rattle.vx_model.specs.Layout.{blocks_at, maps_at, is_free}
 use Rattle.vx_model.specs.State.{State}
 use Rattle.vx_model.specs.Contents.{inode_value}
-use Rattle.vx_model.specs.LaidOut.{IsLaidOut}
+use Rattle.vx_model.specs.LaidOut.{IsLaidOut, IsPlain}
 use Rattle.vx_txn.specs.Directories.{DirectoryValue, IsDirectory, blocks_in, maps_in, directory_at}
 use Rattle.vx_txn.specs.declared.meta.Meta.{Meta}
 
@@ -41,9 +41,10 @@ pub record IsStateOf (m : Meta) (s : State) : Type 0 where
   pub places : length m.free.pending ≡ 4096 * m.free.units
   pub limit : s.layout.directory_limit ≡ 64
 
--- the metadata stand for a state of which an image reads as the tree
+-- the metadata stand for a state that can be laid out, in which no file has bytes
 pub record Stands (m : Meta) (s : State) : Type 0 where
   pub laid_out : IsLaidOut s
+  pub plain : IsPlain s
   pub is : IsStateOf m s
 
 pub record IsSound (m : Meta) : Type 0 where

@@ -1,5 +1,5 @@
 -- Names that go.
-use Rattle.std.specs.Prelude.{◌≡◌, ◌≢◌, ℕ, Ok}
+use Rattle.std.specs.Prelude.{◌≡◌, ◌≢◌, ℕ, nat_le, Ok}
 use Rattle.std.specs.FinMap as map
 use Rattle.vx_base.specs.Paths.{FileName}
 use Rattle.vx_model.specs.Outcome.{Maybe, ◌>>=◌}
@@ -14,9 +14,9 @@ use Rattle.vx_model.specs.Removing.{unlinked, unlink_entry, remove_directory}
 abbrev pub links_of : Nodes → ℕ → Maybe ℕ
 links_of nodes ino = file_at nodes ino >>= (λ (f : File). Ok f.nlink)
 
--- an inode with one name less: it goes with its last name
+-- an inode with one name less: it goes with its last name, as no handle is open so far
 abbrev pub unnamed : State → ℕ → ℕ → Node → State
-unnamed s place ino (IsFile f) = unlinked s place ino f
+unnamed s place ino (IsFile f) = unlinked s place ino (nat_le f.nlink 1) f
 unnamed s place ino (IsDirectory d) = drop_node s place ino
 
 abbrev pub entry_of : ℕ → FileName → ℕ → Entry

@@ -26,6 +26,7 @@ use vx_dir::DirRefusal;
 use vx_filemaps::{PlaceRefusal, give_laws, place_laws};
 use vx_inode::MakeRefusal;
 use vx_model::edits::edit_laws;
+use vx_model::states::plain_states;
 use vx_space::place_laws as space_laws;
 
 const BLOCK_SIZE: u64 = 1024;
@@ -387,6 +388,7 @@ pub fn drop_node(meta: &mut Meta, ino: Ino, place: u64, touched: &mut Touched)
 {
     edit_laws();
     give_laws();
+    plain_states();
     let directory = slots::directory_at(meta.directories.as_slice(), ino);
     pend_blocks(&mut meta.free, directory, place);
     touch_units(meta.first, directory, 0, 0, touched);

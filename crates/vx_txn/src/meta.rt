@@ -5,7 +5,7 @@ ghost use Rattle.vx_base.specs.declared.kind.FileKind.TheVariants as kind;
 ghost use Rattle.vx_extents.specs.Extents.{stretches};
 ghost use Rattle.vx_layout.specs.Places.{is_data};
 ghost use Rattle.vx_model.specs.Contents.{inode_value};
-ghost use Rattle.vx_model.specs.LaidOut.{IsLaidOut};
+ghost use Rattle.vx_model.specs.LaidOut.{IsLaidOut, IsPlain};
 ghost use Rattle.vx_model.specs.Layout.{volume, claim_of};
 ghost use Rattle.vx_model.specs.Legal.{IfThere, with_released};
 ghost use Rattle.vx_model.specs.Naming.{list};
@@ -36,7 +36,7 @@ use vx_base::{
 use vx_extents::ExtentMap;
 use vx_filemaps::Scratch;
 use vx_inode::InodeTable;
-use vx_model::states::claims;
+use vx_model::states::{claims, fresh_reads, plain_states};
 
 /// The units of a new file system.
 const UNITS: u32 = 1;
@@ -63,6 +63,8 @@ impl Meta {
         ensures state { IfOk result (λ m. (device_sectors : ℕ) → IsStateOf m (fresh log_blocks 64 device_sectors)) }
         ensures sound { IfOk result IsSound }
     {
+        // The proof rests on this law; nothing runs here.
+        fresh_reads();
         let mut inodes = InodeTable::new(alloc, UNITS)?;
         inodes.put(Ino::new(ROOT), &root())?;
         let mut directories = Vec::new(alloc);
@@ -93,7 +95,7 @@ impl Meta {
         requires mode { HasMode call.now }
         requires sound { IsSound self.old }
         requires empty { touched.old ≡ untouched }
-        ensures done { (s : State) (session : ℕ) → IsLaidOut s → IsStateOf self.old s
+        ensures done { (s : State) (session : ℕ) → IsLaidOut s → IsPlain s → IsStateOf self.old s
             → IfOk result (λ replies. IfThere (step s place session call.now) (λ done. IsDone s done self.new touched.new replies.0)) }
         ensures copy { IfOk result (λ replies. replies.1 ≡ replies.0) }
         ensures sound { IfOk result (λ replies. IsSoundReply replies.0) }
@@ -113,7 +115,7 @@ impl Meta {
 
     /// Blocks freed by events at places below `upto` are free.
     pub fn release(&mut self, upto: u64)
-        ensures { (s : State) → IsLaidOut s → IsStateOf self.old s → IsStateOf self.new (with_released s upto) }
+        ensures { (s : State) → IsLaidOut s → IsPlain s → IsStateOf self.old s → IsStateOf self.new (with_released s upto) }
     {
         self.free.release(upto);
     }
@@ -128,7 +130,7 @@ impl Meta {
 
     /// What the inode of a number says.
     pub fn inode_value(&self, ino: Ino) -> Option<InodeValue>
-        ensures { (s : State) → IsLaidOut s → IsStateOf self.now s → result ≡ inode_value s ino }
+        ensures { (s : State) → IsLaidOut s → IsPlain s → IsStateOf self.now s → result ≡ inode_value s ino }
     {
         match self.inodes.get(ino) {
             Some(inode) => Some(value_of(*inode, self.directory(ino))),
@@ -145,9 +147,10 @@ impl Meta {
 
     /// Whether an inode has a data block.
     pub fn is_claimed(&self, b: Block) -> bool
-        ensures { (s : State) → IsLaidOut s → IsStateOf self.now s → IsTrue (is_data (volume s.layout) b) → result ≡ is_some (claim_of s.layout b) }
+        ensures { (s : State) → IsLaidOut s → IsPlain s → IsStateOf self.now s → IsTrue (is_data (volume s.layout) b) → result ≡ is_some (claim_of s.layout b) }
     {
         claims();
+        plain_states();
         self.free.is_used(b)
     }
 }

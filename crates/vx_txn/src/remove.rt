@@ -19,6 +19,7 @@ use crate::touched::Touched;
 use crate::walk::{directory_of, step_to, walk};
 use std::alloc::{AllocError, Global};
 use vx_base::{FileKind, Ino, Name, Refusal, Reply};
+use vx_model::states::plain_states;
 use vx_path::{SplitRefusal, split};
 
 // ---- unlink
@@ -101,6 +102,7 @@ fn unlink_entry(
     ensures few { most touched.new ≤ 4 }
     ensures units { length touched.new.units ≤ 70 }
 {
+    plain_states();
     match links_of(meta, ino) {
         Ok(_) => {
             remove_name(meta, at, name, touched);

@@ -31,6 +31,7 @@ use crate::walk::{directory_of, step_to, walk};
 use std::alloc::{AllocError, Global};
 use vx_base::{FileKind, Ino, Name, Names, Refusal, Reply};
 use vx_dir::DirBlocks;
+use vx_model::states::plain_states;
 use vx_path::{SplitRefusal, split};
 
 /// A name of the directory `at`, and the inode that it means.
@@ -241,6 +242,7 @@ fn move_onto(
     ensures unchanged { OnErr result (IsUnchanged meta.old meta.new) }
     ensures untouched { OnErr result (touched.new ≡ untouched) }
 {
+    plain_states();
     match step_to(meta, m.to, m.name) {
         Ok(target) => {
             if target == m.from.ino {

@@ -17,7 +17,7 @@ use Rattle.vx_model.specs.State.{State, Done, fresh_of}
 use Rattle.vx_model.specs.Step.{step}
 use Rattle.vx_model.specs.Legal.{World, is_fault, state_after_step, with_released, after, after_all}
 use Rattle.vx_model.specs.Layout.{volume}
-use Rattle.vx_model.specs.LaidOut.{IsLaidOut}
+use Rattle.vx_model.specs.LaidOut.{IsLaidOut, IsPlain}
 use Rattle.vx_model.specs.NameLaws.{names_in, name_count, link_number, HasNoLoops}
 use Rattle.vx_wellformed.specs.WellFormed.{IsWellFormed, HasMode, HasModes}
 use Rattle.vx_wellformed.proofs.EntryNames.{none_mean}
@@ -56,9 +56,10 @@ fresh_low units k node some is = elim (cases_eq k 2) [
   | inr ne ↦ let c : None ≡ Some node = sym (fresh_other k ne) ∙ is in absurd cc
 ]
 
-pub fresh_well_formed : (v : Super) (limit device_sectors : ℕ) → IsSuper v → IsLaidOut (fresh_of v limit device_sectors) → HasNoLoops nodes_fresh → IsWellFormed (fresh_of v limit device_sectors)
-fresh_well_formed v limit device_sectors is laid none = record {
+pub fresh_well_formed : (v : Super) (limit device_sectors : ℕ) → IsSuper v → IsLaidOut (fresh_of v limit device_sectors) → IsPlain (fresh_of v limit device_sectors) → HasNoLoops nodes_fresh → IsWellFormed (fresh_of v limit device_sectors)
+fresh_well_formed v limit device_sectors is laid plain none = record {
   laid_out = laid;
+  plain = plain;
   names = λ n. tt;
   links = record { low = λ k node there. fresh_low v.units k node is.units_low there; links = λ i. no_names i (128 * v.units) ∙ sym (fresh_link i) };
   no_loops = none;

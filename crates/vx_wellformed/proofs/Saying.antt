@@ -25,7 +25,7 @@ use Rattle.vx_model.specs.Walks.{root, walk}
 use Rattle.vx_model.specs.Images.{Stands}
 use Rattle.vx_model.specs.Reads.{entries_from}
 use Rattle.vx_model.specs.Contents.{settled_of, inode_for, parsed_of}
-use Rattle.vx_model.specs.LaidOut.{Owns, HasNothing, IsHeld, IsLaidOut, entries_of}
+use Rattle.vx_model.specs.LaidOut.{Owns, HasNothing, IsHeld, IsPlain, IsPlainHeld, IsLaidOut, entries_of}
 use Rattle.vx_model.specs.Saying.{IsImageOf, StateSays}
 use Rattle.vx_model.specs.NameLaws.{meaning_in, lookup, names_in, name_count}
 use Rattle.vx_wellformed.specs.Names as names
@@ -89,18 +89,22 @@ nothing_held l n h =
       spelled = subst (λ (ds : List DirectoryBlock). AllByRecursion (λ (b : DirectoryBlock). IsDir 1024 b.entries) ds) (sym none.0) tt;
     }
 
-held_by : (l : Layout) (n : ℕ) (o : Option Node) → l.directory_limit ≤ 64 → IsHeld l n o → HasBlocks l n
+held_by : (l : Layout) (n : ℕ) (o : Option Node) → l.directory_limit ≤ 64 → IsPlainHeld l n o → HasBlocks l n
 held_by l n None limit h = nothing_held l n h
-held_by l n (Some (IsFile f)) limit h = nothing_held l n h.0.1
-held_by l n (Some (IsDirectory d)) limit h = record { space = h.0.space; maps = h.0.maps; few = (let few = h.0.few in omega (arith, few, limit)); spelled = h.0.spelled }
+held_by l n (Some (IsFile f)) limit h = nothing_held l n h.1
+held_by l n (Some (IsDirectory d)) limit h = record { space = h.space; maps = h.maps; few = (let few = h.few in omega (arith, few, limit)); spelled = h.spelled }
 
 pub page_numbers : (page : ℕ) (ds : List DirectoryBlock) → page_blocks (pages_from page ds) ≡ block_numbers ds
 page_numbers page [] = refl
 page_numbers page (d ∷ ds) = ap (λ (xs : List ℕ). d.block ∷ xs) (page_numbers (page + 1) ds)
 
-module _ (s : State) (is : IsLaidOut s) where
+-- what a laid-out state has at each inode where no file has bytes
+abbrev pub Plainly : Type 0
+Plainly = (s : State) → IsLaidOut s → IsPlain s → (n : ℕ) → IsPlainHeld s.layout n (map.get s.tree.nodes n)
+
+module _ (plainly : Plainly) (s : State) (is : IsLaidOut s) (plain : IsPlain s) where
   pub held : (n : ℕ) → HasBlocks s.layout n
-  held n = held_by s.layout n (map.get s.tree.nodes n) is.limit (is.nodes n)
+  held n = held_by s.layout n (map.get s.tree.nodes n) is.limit (plainly s is plain n)
 
   pub pages_are : (n : ℕ) → settled_at s.layout n ≡ pages_from 0 (blocks_at s.layout n)
   pages_are n = ap (λ (x : Space). pages_from 0 (blocks_at s.layout n) ++ x.settled) (held n).space ∙ append-nil (pages_from 0 (blocks_at s.layout n))
@@ -133,7 +137,7 @@ module _ (s : State) (is : IsLaidOut s) where
       let other = uses_append (maps_at s.layout n) (block_numbers (blocks_at s.layout n)) b in
       omega (arith, once, all, one, other)
 
-module _ (says : StateSays) (s : State) (w : IsWellFormed s) (image : Image) (stands : Stands (volume s.layout) (parsed_of s) image) where
+module _ (plainly : Plainly) (says : StateSays) (s : State) (w : IsWellFormed s) (image : Image) (stands : Stands (volume s.layout) (parsed_of s) image) where
   abbrev v : Volume
   v = volume s.layout
 
@@ -148,15 +152,15 @@ module _ (says : StateSays) (s : State) (w : IsWellFormed s) (image : Image) (st
 
   -- ---- claims
 
-  claims_by : (n : ℕ) (o : Option Node) → map.get s.tree.nodes n ≡ o → IsHeld l n o → claimed_by v image (option_map (inode_for (settled_of l n)) o) ≡ taken s is n
+  claims_by : (n : ℕ) (o : Option Node) → map.get s.tree.nodes n ≡ o → IsPlainHeld l n o → claimed_by v image (option_map (inode_for (settled_of l n)) o) ≡ taken plainly s is w.plain n
   claims_by n None e h = let none = nothing_at l n h in ap₂ (λ (ms : List ℕ) (ds : List DirectoryBlock). ms ++ block_numbers ds) (sym none.1) (sym none.0)
   claims_by n (Some node) e h =
       let at = ap (option_map (inode_for (settled_of l n))) e in
-      ap₂ (λ (xs ys : List ℕ). xs ++ ys) (says.chain s image there n (inode_for (settled_of l n) node) at ∙ maps_are s is n)
-      (says.blocks s image there n (inode_for (settled_of l n) node) at ∙ ap page_blocks (pages_are s is n) ∙ page_numbers 0 (blocks_at l n))
+      ap₂ (λ (xs ys : List ℕ). xs ++ ys) (says.chain s image there n (inode_for (settled_of l n) node) at ∙ maps_are plainly s is w.plain n)
+      (says.blocks s image there n (inode_for (settled_of l n) node) at ∙ ap page_blocks (pages_are plainly s is w.plain n) ∙ page_numbers 0 (blocks_at l n))
 
-  claims_are : (n : ℕ) → claimed_by v image (inode_said v image n) ≡ taken s is n
-  claims_are n = ap (claimed_by v image) (says.inodes s image there n) ∙ claims_by n (map.get s.tree.nodes n) refl (is.nodes n)
+  claims_are : (n : ℕ) → claimed_by v image (inode_said v image n) ≡ taken plainly s is w.plain n
+  claims_are n = ap (claimed_by v image) (says.inodes s image there n) ∙ claims_by n (map.get s.tree.nodes n) refl (plainly s is w.plain n)
 
   claims_more : (n b : ℕ) → among (claims_below v image (suc n)) b ≡ (among (claims_below v image n) b || among (owned l n) b)
   unfolding claims_below
@@ -164,7 +168,7 @@ module _ (says : StateSays) (s : State) (w : IsWellFormed s) (image : Image) (st
       ap (λ xs. among xs b) (listed_more (λ m. claimed_by v image (inode_said v image m)) n)
       ∙ among_both (claims_below v image n) (claimed_by v image (inode_said v image n)) b
       ∙ ap (λ xs. among (claims_below v image n) b || among xs b) (claims_are n)
-      ∙ ap (λ t. among (claims_below v image n) b || t) (taken_owned s is n b)
+      ∙ ap (λ t. among (claims_below v image n) b || t) (taken_owned plainly s is w.plain n b)
 
   claims_none : (b : ℕ) → among (claims_below v image 0) b ≡ false
   unfolding claims_below
@@ -186,24 +190,24 @@ module _ (says : StateSays) (s : State) (w : IsWellFormed s) (image : Image) (st
       ∙ or_from (among (claims_below v image k) b) (among (owned l k) b) (new_claim n b has k (omega (arith, low)))
       (false_from_ne_true (among (owned l k) b) (λ other. let e : k ≡ n = is.use_of_blocks.once k n b other has in absurd (omega (arith, e, low))))
 
-  pub claims_apart : (n : ℕ) → AreClaimable v (claims_below v image n) (taken s is n)
+  pub claims_apart : (n : ℕ) → AreClaimable v (claims_below v image n) (taken plainly s is w.plain n)
   claims_apart n =
-      claimable v (claims_below v image n) (taken s is n) (λ b h. (
-      let owns = sym (taken_owned s is n b) ∙ h in
+      claimable v (claims_below v image n) (taken plainly s is w.plain n) (λ b h. (
+      let owns = sym (taken_owned plainly s is w.plain n b) ∙ h in
       record { is_data = is.use_of_blocks.data_blocks n b owns; new = new_claim n b owns n (omega arith) }))
-      (taken_once s is n)
+      (taken_once plainly s is w.plain n)
 
   -- ---- entries
 
   -- a directory's names are counted alike
-  counted_by : (i n : ℕ) (o : Option Node) → IsHeld l n o → naming i (entries_of (blocks_at l n)) ≡ names_in i o
+  counted_by : (i n : ℕ) (o : Option Node) → IsPlainHeld l n o → naming i (entries_of (blocks_at l n)) ≡ names_in i o
   counted_by i n None h = ap (λ bs. naming i (entries_of bs)) (nothing_at l n h).0
-  counted_by i n (Some (IsFile f)) h = ap (λ bs. naming i (entries_of bs)) (nothing_at l n h.0.1).0
+  counted_by i n (Some (IsFile f)) h = ap (λ bs. naming i (entries_of bs)) (nothing_at l n h.1).0
   counted_by i n (Some (IsDirectory d)) h =
-      sym (ap (λ es. meaning i (map.entries es)) h.0.entries ∙ counted_alike i [] (entries_of (blocks_at l n)) (w.names n))
+      sym (ap (λ es. meaning i (map.entries es)) h.entries ∙ counted_alike i [] (entries_of (blocks_at l n)) (w.names n))
 
   counted : (i n : ℕ) → naming i (entries_of (blocks_at l n)) ≡ names_in i (map.get s.tree.nodes n)
-  counted i n = counted_by i n (map.get s.tree.nodes n) (is.nodes n)
+  counted i n = counted_by i n (map.get s.tree.nodes n) (plainly s is w.plain n)
 
   counted_below : (i n : ℕ) → naming i (flat_map (said.entries_of v image) (numbers 0 n)) ≡ name_count s.tree.nodes n i
   unfolding name_count

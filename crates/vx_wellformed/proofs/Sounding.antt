@@ -32,7 +32,7 @@ use Rattle.vx_model.specs.State.{State}
 use Rattle.vx_model.specs.Walks.{root}
 use Rattle.vx_model.specs.Contents.{Held, settled_of, inode_for, inode_value, parsed_of}
 use Rattle.vx_model.specs.Images.{content_at}
-use Rattle.vx_model.specs.LaidOut.{IsHeld, IsDirectoryNode, IsLaidOut, entries_of}
+use Rattle.vx_model.specs.LaidOut.{IsHeld, IsDirectoryNode, IsLaidOut, IsPlain, IsOnDevice, entries_of}
 use Rattle.vx_model.specs.Saying.{IsImageOf, StateSays}
 use Rattle.vx_wellformed.specs.WellFormed.{IsWellFormed}
 use Rattle.vx_wellformed.proofs.Naming.{file_names, directory_names, root_names}
@@ -41,7 +41,7 @@ use Rattle.vx_wellformed.proofs.Forms.{whole_blocks, length-slot, length-part}
 use Rattle.vx_wellformed.proofs.Stretches.{IsDataBelow, each_below, in_order, without_holes}
 use Rattle.vx_wellformed.proofs.Claiming.{claimable_first, claimable_rest, claimable_at}
 use Rattle.vx_wellformed.proofs.Chaining.{link, chain_got, share_is, next_is}
-use Rattle.vx_wellformed.proofs.Saying.{held, pages_are, maps_are, page_numbers, below_alike, claims_apart, names_alike, targets, reached_alike}
+use Rattle.vx_wellformed.proofs.Saying.{Plainly, held, pages_are, maps_are, page_numbers, below_alike, claims_apart, names_alike, targets, reached_alike}
 
 -- ---- lists
 
@@ -148,7 +148,9 @@ pub record Laws : Type 0 where
       → content_at v p (block_sector (per_block v) b + i) ≡ option_map (λ x. sector_part i (form_bytes v.block x)) (p.forms b)
   pub block : (s : State) (n i : ℕ) (d : DirectoryBlock) → IsLaidOut s → slice_get (blocks_at s.layout n) i ≡ Some d → claim_of s.layout d.block ≡ Some (record { ino = n; form = Some (Entries d.entries) })
   pub map_block : (s : State) (n k : ℕ) (c : Claimed) → IsLaidOut s → slice_get (chain_at s.layout n) k ≡ Some c → claim_of s.layout c.block ≡ Some (record { ino = n; form = c.form })
-  pub owned : (s : State) (b : ℕ) → IsLaidOut s → is_some (claim_of s.layout b) ≡ is_owned s.layout b
+  pub owned : (s : State) (b : ℕ) → IsLaidOut s → ((n : ℕ) → IsOnDevice s.layout n) → is_some (claim_of s.layout b) ≡ is_owned s.layout b
+  pub plainly : Plainly
+  pub on_device : (s : State) → IsLaidOut s → IsPlain s → (n : ℕ) → IsOnDevice s.layout n
   pub decoding : DecodingLaws
   pub says : StateSays
 
@@ -259,10 +261,10 @@ module _ (laws : Laws) (s : State) (w : IsWellFormed s) (image : Image) (stands 
 
   claims_parted : (n : ℕ) → AreClaimable v (claims_below v image n) (settled_maps l n ++ page_blocks (settled_at l n))
   claims_parted n =
-      let maps = maps_are s is n in
-      let pages = ap page_blocks (pages_are s is n) ∙ page_numbers 0 (blocks_at l n) in
+      let maps = maps_are laws.plainly s is w.plain n in
+      let pages = ap page_blocks (pages_are laws.plainly s is w.plain n) ∙ page_numbers 0 (blocks_at l n) in
       subst (λ (ms : List ℕ). AreClaimable v (claims_below v image n) (ms ++ page_blocks (settled_at l n))) (sym maps)
-      (subst (λ (bs : List ℕ). AreClaimable v (claims_below v image n) (maps_at l n ++ bs)) (sym pages) (claims_apart laws.says s w image stands n))
+      (subst (λ (bs : List ℕ). AreClaimable v (claims_below v image n) (maps_at l n ++ bs)) (sym pages) (claims_apart laws.plainly laws.says s w image stands n))
 
   map_in_place : (n k : ℕ) (i : InodeValue) → inode_value s n ≡ Some i → k < i.maps → IsMapInPlace v image n k i
   map_in_place n k i e less =
@@ -294,18 +296,18 @@ module _ (laws : Laws) (s : State) (w : IsWellFormed s) (image : Image) (stands 
   size_is : (n : ℕ) (i : InodeValue) → inode_value s n ≡ Some i → i.inode.size ≡ 1024 * length (blocks_at l n)
   size_is n i e =
       let size = (value n i e).size in
-      let none : (space_at l n).size ≡ 0 = ap (λ (x : Space). x.size) (held s is n).space in
+      let none : (space_at l n).size ≡ 0 = ap (λ (x : Space). x.size) (held laws.plainly s is w.plain n).space in
       omega (arith, size, none)
 
   said_extents : (n : ℕ) (i : InodeValue) → inode_value s n ≡ Some i → extents_said v image i ≡ stretches (pages_from 0 (blocks_at l n))
-  said_extents n i e = laws.says.extents s image here n i e ∙ ap stretches (pages_are s is n)
+  said_extents n i e = laws.says.extents s image here n i e ∙ ap stretches (pages_are laws.plainly s is w.plain n)
 
   said_blocks : (n : ℕ) (i : InodeValue) → inode_value s n ≡ Some i → blocks_said v image i ≡ block_numbers (blocks_at l n)
-  said_blocks n i e = laws.says.blocks s image here n i e ∙ ap page_blocks (pages_are s is n) ∙ page_numbers 0 (blocks_at l n)
+  said_blocks n i e = laws.says.blocks s image here n i e ∙ ap page_blocks (pages_are laws.plainly s is w.plain n) ∙ page_numbers 0 (blocks_at l n)
 
   extent_right : (n : ℕ) (i : InodeValue) → inode_value s n ≡ Some i → (e : Extent) → IsDataBelow (length (blocks_at l n)) e → IsExtentRight v i e
   extent_right n i at e h =
-      let few = (held s is n).few in
+      let few = (held laws.plainly s is w.plain n).few in
       let size = size_is n i at in
       let below = h.below in record {
         some = h.some;
@@ -318,7 +320,7 @@ module _ (laws : Laws) (s : State) (w : IsWellFormed s) (image : Image) (stands 
   kind_by kind.File n i e = tt
   kind_by kind.Directory n i e =
       let count = length-map (blocks_at l n) (λ (d : DirectoryBlock). d.block) in
-      let few = (held s is n).few in
+      let few = (held laws.plainly s is w.plain n).few in
       let size = size_is n i e in record {
         whole = without_holes (blocks_at l n);
         size = omega (arith, size, count);
@@ -376,7 +378,7 @@ module _ (laws : Laws) (s : State) (w : IsWellFormed s) (image : Image) (stands 
   targets_right n k low less =
       let said = ap (entries_said v image) (block_is n k less) ∙ laws.says.entries s image here n k (block_of n k) (block_got n k less) in
       subst (AllByRecursion (HasTarget v image)) (sym said)
-      (at_place (λ (d : DirectoryBlock). AllByRecursion (HasTarget v image) d.entries) (blocks_at l n) k no_block (entries_all (HasTarget v image) (blocks_at l n) (targets laws.says s w image stands n low)) less)
+      (at_place (λ (d : DirectoryBlock). AllByRecursion (HasTarget v image) d.entries) (blocks_at l n) k no_block (entries_all (HasTarget v image) (blocks_at l n) (targets laws.plainly laws.says s w image stands n low)) less)
 
   fewer : (n k : ℕ) → k < length (directory_blocks v image (inode_said v image n)) → k < length (blocks_at l n)
   fewer n k less =
@@ -396,12 +398,12 @@ module _ (laws : Laws) (s : State) (w : IsWellFormed s) (image : Image) (stands 
 
   -- ---- links
 
-  links_by : (n : ℕ) (o : Option Node) → map_of.get s.tree.nodes n ≡ o → IsHeld l n o → n ≢ root → IfSome (option_map (inode_for (settled_of l n)) o) (λ i. FitNames true v image n i i.inode.kind)
-  links_by n None at h ne = tt
-  links_by n (Some (IsFile f)) at h ne = record { links = names_alike laws.says s w image stands n ∙ file_names s w.links n f at; some = λ e. h.0.0.some_links }
-  links_by n (Some (IsDirectory d)) at h ne = record {
-    one = names_alike laws.says s w image stands n ∙ directory_names s w.links n d at ne;
-    reached = reached_alike laws.says s w image stands n (reached s w.links w.no_loops n d at);
+  links_by : (n : ℕ) (o : Option Node) → map_of.get s.tree.nodes n ≡ o → n ≢ root → IfSome (option_map (inode_for (settled_of l n)) o) (λ i. FitNames true v image n i i.inode.kind)
+  links_by n None at ne = tt
+  links_by n (Some (IsFile f)) at ne = record { links = names_alike laws.plainly laws.says s w image stands n ∙ file_names s w.links n f at; some = λ e. (w.plain.files n f at).0.some_links }
+  links_by n (Some (IsDirectory d)) at ne = record {
+    one = names_alike laws.plainly laws.says s w image stands n ∙ directory_names s w.links n d at ne;
+    reached = reached_alike laws.plainly laws.says s w image stands n (reached s w.links w.no_loops n d at);
   }
 
   root_kind : (h : Held) (o : Option Node) → IfThere o IsDirectoryNode → option_map (λ (i : InodeValue). i.inode.kind) (option_map (inode_for h) o) ≡ Some kind.Directory
@@ -412,13 +414,13 @@ module _ (laws : Laws) (s : State) (w : IsWellFormed s) (image : Image) (stands 
   root_right : IsRoot v image (inode_said v image root)
   root_right = record {
     directory = ap (option_map (λ (i : InodeValue). i.inode.kind)) (laws.says.inodes s image here root) ∙ root_kind (settled_of l root) (map_of.get s.tree.nodes root) is.has_root;
-    no_name = names_alike laws.says s w image stands root ∙ root_names s w.links is.has_root;
+    no_name = names_alike laws.plainly laws.says s w image stands root ∙ root_names s w.links is.has_root;
   }
 
   links_right : (n : ℕ) → AreLinksRight true v image n
   links_right n = record {
     root_is = λ e. subst (λ (k : ℕ). IsRoot v image (inode_said v image k)) (sym e) root_right;
-    other = λ ne. subst (λ (o : Option InodeValue). IfSome o (λ i. FitNames true v image n i i.inode.kind)) (sym (laws.says.inodes s image here n)) (links_by n (map_of.get s.tree.nodes n) refl (is.nodes n) ne);
+    other = λ ne. subst (λ (o : Option InodeValue). IfSome o (λ i. FitNames true v image n i i.inode.kind)) (sym (laws.says.inodes s image here n)) (links_by n (map_of.get s.tree.nodes n) refl ne);
   }
 
   -- ---- bitmaps
@@ -430,7 +432,7 @@ module _ (laws : Laws) (s : State) (w : IsWellFormed s) (image : Image) (stands 
   used_alike : (u j : ℕ) → used_in v (parsed_of s) u j ≡ facts.used_in v image u j
   used_alike u j =
       ap (λ t. nat_lt j (first_data (per_block v)) || t)
-      (some_ino (claim_of l (unit_block v u + j)) ∙ laws.owned s (unit_block v u + j) is ∙ sym (below_alike laws.says s w image stands (unit_block v u + j) (128 * l.units)))
+      (some_ino (claim_of l (unit_block v u + j)) ∙ laws.owned s (unit_block v u + j) is (laws.on_device s is w.plain) ∙ sym (below_alike laws.plainly laws.says s w image stands (unit_block v u + j) (128 * l.units)))
 
   blank_is : (u : ℕ) → u < l.units → image (bitmap_sector v u + 1) ≡ replicate 512 0
   blank_is u low = subst (λ (q : Place). IfSome (content v (parsed_of s) q) (λ bytes. image (bitmap_sector v u + 1) ≡ bytes)) (blank_place l u low) (stands (bitmap_sector v u + 1))

@@ -12,7 +12,7 @@ use Rattle.vx_sound.specs.Facts.{AreNamesRight}
 use Rattle.vx_model.specs.State.{State, Done, fresh_of}
 use Rattle.vx_model.specs.Step.{step}
 use Rattle.vx_model.specs.Layout.{Layout, blocks_at}
-use Rattle.vx_model.specs.LaidOut.{IsLaidOut, entries_of}
+use Rattle.vx_model.specs.LaidOut.{IsLaidOut, IsPlain, entries_of}
 use Rattle.vx_model.specs.Legal.{World, with_released, after, after_all}
 use Rattle.vx_model.specs.NameLaws.{HasLinks, HasNoLoops}
 
@@ -20,9 +20,18 @@ use Rattle.vx_model.specs.NameLaws.{HasLinks, HasNoLoops}
 abbrev pub HasNames : Layout → Type 0
 HasNames l = (n : ℕ) → AreNamesRight [] (entries_of (blocks_at l n))
 
--- The state can be laid out on a device, its names fit its inodes, and no inode is below itself.
+-- The state can be laid out on a device, its names fit its inodes, and no inode is below itself. Its files may have bytes, and
+-- handles may be open.
+pub record IsConsistent (s : State) : Type 0 where
+  pub laid_out : IsLaidOut s
+  pub names : HasNames s.layout
+  pub links : HasLinks s
+  pub no_loops : HasNoLoops s.tree.nodes
+
+-- So it is, and no file has bytes.
 pub record IsWellFormed (s : State) : Type 0 where
   pub laid_out : IsLaidOut s
+  pub plain : IsPlain s
   pub names : HasNames s.layout
   pub links : HasLinks s
   pub no_loops : HasNoLoops s.tree.nodes
@@ -41,6 +50,9 @@ HasModes (event.Do at session line c reply) = HasMode c
 HasModes _ = Unit {0}
 
 pub record WellFormedLaws : Type 0 where
+  -- each call of names keeps a state consistent, whatever its files have
+  pub consistent : (s : State) (place session : ℕ) (c : Call) (done : Done) → IsConsistent s → HasMode c → step s place session c ≡ Some done → IsConsistent done.state
+  pub consistent_released : (s : State) (upto : ℕ) → IsConsistent s → IsConsistent (with_released s upto)
   -- a new file system is well-formed
   pub fresh : (v : Super) (limit device_sectors : ℕ) → IsSuper v → limit ≤ 64 → sectors_of (volume_of v) ≤ device_sectors → IsWellFormed (fresh_of v limit device_sectors)
   -- each call keeps it so, whatever it answers

@@ -15,7 +15,7 @@ ghost use Rattle.vx_wellformed.specs.Images.{HistorySound, StateSound};
 use vx_model::edits::edit_laws;
 use vx_model::images::{log_says, sector_contents};
 use vx_model::laws::{link_numbers, loops};
-use vx_model::states::{claims, fresh_reads, state_says, unused_inodes};
+use vx_model::states::{claims, fresh_reads, handles, plain_states, state_says, unused_inodes};
 use vx_model::waiting::waiting_laws;
 use vx_sound::{alike_laws, decoding_laws};
 
@@ -24,11 +24,13 @@ pub fn names_fit()
     ensures { (s : State) → HasLinks s → HasNoLoops s.tree.nodes → IfThere (map.get s.tree.nodes root) IsDirectoryNode → NamesFit s }
 {}
 
-/// A new file system is well-formed, and each call keeps it so.
+/// A new file system is well-formed, and each call keeps it so; it keeps a state consistent, too, whose files have bytes.
 pub fn well_formed_laws()
     ensures { WellFormedLaws }
 {
     edit_laws();
+    handles();
+    plain_states();
     unused_inodes();
     link_numbers();
     loops();
@@ -43,6 +45,7 @@ pub fn state_sound()
     sector_contents();
     log_says();
     claims();
+    plain_states();
     state_says();
 }
 

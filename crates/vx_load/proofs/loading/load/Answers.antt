@@ -1,4 +1,4 @@
-use Rattle.std.proofs.Common.{◌≡◌, true, false, List, get_or, Option, None, Err, sym, ap, ◌∙◌, subst}
+use Rattle.std.proofs.Common.{◌≡◌, true, List, Option, None, Err, sym, ap, ◌∙◌, subst}
 use Rattle.vx_base.specs.declared.inode.InodeValue.{InodeValue}
 use Rattle.vx_dev.specs.Tape.{now}
 use Rattle.vx_layout.specs.Places.{Volume}
@@ -10,7 +10,7 @@ use Rattle.vx_sound.specs.Said.{Image}
 use Rattle.vx_replay.specs.ImageChecks.{HasCleanFront}
 use Rattle.vx_load.specs.Listed.{AreListed, AreOf}
 use Rattle.vx_load.specs.Loads.{HasBytesAt, HoldsState, IsRefused}
-use Rattle.vx_load.specs.Plain.{ArePlain, is_plain}
+use Rattle.vx_load.specs.Plain.{ArePlain, IsHeldAt}
 use Rattle.vx_load.proofs.Listing.{holds, listed, state, state_for}
 use Rattle.vx_load.proofs.Refusing.{bytes_at, rose_later, still_shows, unsound}
 use Rattle.vx_load.proofs.loading.load.Goals as goal
@@ -42,7 +42,7 @@ returns-in-Some-clause-refused g c = λ t shown.
     let are : AreSaid (volume_of front.superblock) (now t) f.inodes.items f.children.items f.contents.items = subst (λ (image : Image). AreSaid (volume_of front.superblock) image f.inodes.items f.children.items f.contents.items) real found.are in
     subst (HasBytesAt d0.size (now t)) (sym c.get.ensures)
     (bytes_at c.clean_front_laws.ensures.passes d0.size (now t) front c.in-Ok.ensures.is (c.in-Ok.ensures.shows t shown) f.inodes.items are.inodes_are are.sound c.in-Some.ino
-    (subst (λ (os : List (Option InodeValue)). is_plain (get_or os c.in-Some.ino None) ≡ false) c.deref.ensures.value c.in-Some.ensures.some))
+    (subst (λ (os : List (Option InodeValue)). IsHeldAt os c.in-Some.ino) c.deref.ensures.value c.in-Some.ensures.some))
 
 pub metadata_of-requires-clause-listed : goal.metadata_of-requires-clause-listed
 metadata_of-requires-clause-listed g c =

@@ -11,7 +11,7 @@ put_file-requires c = record {
   state = c.requires.state;
   laid_out = c.requires.laid_out;
   loaded = c.requires.loaded;
-  there = record { inode_is = ap (option_map (λ (v : InodeValue). v.inode)) (c.requires.there.inode_is ∙ c.in-Some.is); kind_is = c.in-File.is };
+  there = record { inode_is = ap (option_map (λ (v : InodeValue). v.inode)) (c.requires.there.inode_is ∙ c.in-Some.is); kind_is = c.in-File.is; nothing = c.requires.there.file c.in-Some.value c.in-Some.is c.in-File.is };
 }
 
 pub put_directory-requires : goal.put_directory-requires

@@ -11,4 +11,4 @@ pub returns-clause-map_block : goal.returns-clause-map_block
 returns-clause-map_block c s n k it is at = map_law s is n k it at
 
 pub returns-clause-owned : goal.returns-clause-owned
-returns-clause-owned c s b is = owned_law s is b
+returns-clause-owned c s b is on_device = owned_law s.layout on_device b

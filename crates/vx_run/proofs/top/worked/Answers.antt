@@ -17,6 +17,14 @@ run_on_new-requires g c = let asks = c.in-Ok.ensures.asks (g.D.BlockDev.state c.
 pub run_on_image-requires-clause-form : goal.run_on_image-requires-clause-form
 run_on_image-requires-clause-form g c = let asks = c.in-Ok.ensures.asks (g.D.BlockDev.state c.args.dev) in asks.form
 
+pub run_on_image-requires-clause-certain : goal.run_on_image-requires-clause-certain
+run_on_image-requires-clause-certain g c =
+    let d = g.D.BlockDev.state c.args.dev in
+    let s : Setting = record { words = map string_bytes c.args.words.now; script = g.S.Source.left c.args.script.now; device = d; script_faults = g.S.Source.fault_count c.args.script.now } in
+    let asked = c.in-Ok.read.0 in
+    let asks = subst (λ (v : Verb). Asks s (record { verb = v; logging = asked.logging }) c.in-Ok.read.1) c.in-Mount.is (c.in-Ok.ensures.asks d) in
+    c.requires.certain (asked.logging, asks.words)
+
 pub returns-in-Fresh-clause-ended : goal.returns-in-Fresh-clause-ended
 returns-in-Fresh-clause-ended g c =
     let d = g.D.BlockDev.state c.args.dev in

@@ -1,6 +1,6 @@
 use Rattle.std.proofs.Common.{true, refl}
 use Rattle.vx_said.proofs.States.{state}
-use Rattle.vx_said.proofs.LayingOut.{IsSoundImage, Laws, laid_out, stands, reads}
+use Rattle.vx_said.proofs.LayingOut.{IsSoundImage, Laws, laid_out, plainly, stands, reads}
 use Rattle.vx_said.proofs.Names.{has_names, has_links}
 use Rattle.vx_said.proofs.Reaching.{no_loops}
 use Rattle.vx_said.proofs.laws.said_state.Goals as goal
@@ -13,6 +13,7 @@ returns c v device_sectors image sizes room sound plain =
       state = state v device_sectors image;
       well_formed = record {
         laid_out = laid_out laws v device_sectors image is;
+        plain = plainly laws v device_sectors image is;
         names = has_names v device_sectors image is;
         links = has_links v device_sectors image is;
         no_loops = no_loops v device_sectors image is;

@@ -41,7 +41,7 @@ returns-clause-dropped c = λ base s gone.
     let dir : option_copied c.directory_at-directory.result ≡ directory_of m c.args.ino = c.directory_at-directory.ensures ∙ ap (λ (x : Slots). directory_at x c.args.ino) c.as_slice.ensures.value in
     let items = with_items_is m.directories c.clear.new.slots (c.clear.auto.slots ∙ c.as_mut_slice.ensures.len) in
     let blocks : blocks_past 0 0 (option_copied c.directory_at-directory.result) ≡ all_blocks (directory_of m c.args.ino) = ap (blocks_past 0 0) dir ∙ all_past (directory_of m c.args.ino) in
-    dropped_gone c.edit_laws.ensures c.give_laws.ensures base s m _ c.args.touched.now c.add_inode.new.self gone c.args.ino c.args.place (used_low m s (stands_of base s m c.args.touched.now gone) c.args.ino c.requires.used) c.requires.other
+    dropped_gone c.edit_laws.ensures c.plain_states.ensures.closed c.give_laws.ensures base s m _ c.args.touched.now c.add_inode.new.self gone c.args.ino c.args.place (used_low m s (stands_of base s m c.args.touched.now gone) c.args.ino c.requires.used) c.requires.other
     c.drop_inode.ensures
     (ap (λ (x : Slots). directory_at x c.args.ino) items ∙ c.clear.ensures.here)
     (λ n ne. ap (λ (x : Slots). directory_at x n) items ∙ c.clear.ensures.others n ne ∙ ap (λ (x : Slots). directory_at x n) c.as_mut_slice.ensures.value)

@@ -49,7 +49,7 @@ returns-in-Ok-replaceable-clause-done c = λ s d node stands at found.
     let has = step_entry s.tree.nodes m.to m.name.now c.in-Ok.target d at (sym (c.step_to.ensures.step s stands) ∙ c.in-Ok.is) in
     let same = kind_is (map.get s.tree.nodes m.from.ino) node c.args.kind (c.requires.kind s stands) found in
     let may = ap (λ (k : FileKind). replaceable s.tree.nodes k c.in-Ok.target) same ∙ sym (c.replaceable.ensures.answer s stands) ∙ c.in-Ok-replaceable.is in
-    let r = replaced s c.args.place (move_of m node) c.in-Ok.target node may in
+    let r = replaced s c.args.place (move_of m node) c.in-Ok.target node (λ f. c.plain_states.ensures.last s c.in-Ok.target f stands.plain) may in
     subst (λ (chain : Maybe Done). IfOk c.put_over.result (IsSettled s chain c.put_over.new.meta c.put_over.new.touched))
     (sym (onto s c.args.place (move_of m node) (map.get d.entries m.name.now) c.in-Ok.target has (sym c.eq.ensures ∙ c.if-eq.false) ∙ r.is))
     (c.put_over.ensures.done s node r.old stands found r.found)

@@ -18,7 +18,7 @@ loop-j-preserved c =
     bit_more c.args.meta.now (c.get.result + 4096 * c.args.unit) c.loop-j.j c.loop-j.used c.is_claimed.result c.loop-j.invariant c.loop-j.auto.j (c.loop-j-test.true) (λ s stands.
     let v : Volume = volume s.layout in
     let at : c.new.result ≡ unit_block v c.args.unit + c.loop-j.j = omega (arith, c.new.ensures, c.get.ensures, stands.is.first) in
-    c.is_claimed.ensures s stands.laid_out stands.is
+    c.is_claimed.ensures s stands.laid_out stands.plain stands.is
     (subst (λ (b : ℕ). IsTrue (is_data v b)) (sym at) (c.places.ensures.data_blocks v c.args.unit c.loop-j.j (omega (arith, c.requires.inside, stands.is.units)) c.loop-j-test.true c.loop-j.auto.j))
     ∙ ap (λ (b : ℕ). is_some (claim_of s.layout b)) c.new.ensures)
 

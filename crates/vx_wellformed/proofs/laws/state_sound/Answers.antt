@@ -13,6 +13,8 @@ returns c =
       block = c.claims.ensures.block;
       map_block = c.claims.ensures.map_block;
       owned = c.claims.ensures.owned;
+      plainly = c.plain_states.ensures.held;
+      on_device = c.plain_states.ensures.on_device;
       decoding = c.decoding_laws.ensures;
       says = c.state_says.ensures;
     } in

@@ -6,7 +6,7 @@ use Rattle.vx_calls.proofs.Spending.{joined, joined_owed, joined_promised, one_m
 use Rattle.vx_calls.proofs.mount.Mount.note.Goals as goal
 
 pub gather-requires-clause-sound : goal.gather-requires-clause-sound
-gather-requires-clause-sound g c = let r = c.requires.replied.1 in record { state = r.new; stands = record { laid_out = r.laid_out; is = r.meta } }
+gather-requires-clause-sound g c = let r = c.requires.replied.1 in record { state = r.new; stands = record { laid_out = r.laid_out; plain = r.plain; is = r.meta } }
 
 pub returns-clause-at : goal.returns-clause-at
 returns-clause-at g c = λ o r may.

@@ -12,21 +12,21 @@ returns-clause-at g c = λ o at used.
     let m = c.args.self.now in
     let d = g.D.BlockDev.state c.args.dev.now in
     same_job o d d m at c.release.new.self (event.Release d.count m.kernel.committed) c.release.ensures.items (c.release.ensures.run o at.run used) (c.release.ensures.live o at.run used at.live) c.release.ensures.fit
-    (ap (λ (x : Kernel). x.job) c.release.ensures.same) (in_use_still o m.kernel used) c.release-2.new.self (c.release-2.ensures (present o m.kernel) at.run.mounted_now.well_formed.laid_out at.meta)
+    (ap (λ (x : Kernel). x.job) c.release.ensures.same) (in_use_still o m.kernel used) c.release-2.new.self (c.release-2.ensures (present o m.kernel) at.run.mounted_now.well_formed.laid_out at.run.mounted_now.well_formed.plain at.meta)
 
 pub returns-clause-waits : goal.returns-clause-waits
 returns-clause-waits g c =
     let m = c.args.self.now in
     let at = c.requires.used.at in
     let s = present c.requires.used.opening m.kernel in
-    released_wait m.meta c.release-2.new.self s m.kernel.committed at.meta (c.release-2.ensures s at.run.mounted_now.well_formed.laid_out at.meta)
+    released_wait m.meta c.release-2.new.self s m.kernel.committed at.meta (c.release-2.ensures s at.run.mounted_now.well_formed.laid_out at.run.mounted_now.well_formed.plain at.meta)
 
 pub returns-clause-freed : goal.returns-clause-freed
 returns-clause-freed g c = λ all.
     let m = c.args.self.now in
     let at = c.requires.used.at in
     let s = present c.requires.used.opening m.kernel in
-    all_released c.release-2.new.self s m.kernel.committed (c.release-2.ensures s at.run.mounted_now.well_formed.laid_out at.meta) (λ b p is. omega (arith, all, at.run.pending b p is))
+    all_released c.release-2.new.self s m.kernel.committed (c.release-2.ensures s at.run.mounted_now.well_formed.laid_out at.run.mounted_now.well_formed.plain at.meta) (λ b p is. omega (arith, all, at.run.pending b p is))
 
 pub returns-clause-noted : goal.returns-clause-noted
 returns-clause-noted g c = one_more c.args.self.now.kernel.history.items c.release.new.self.history.items _ c.release.ensures.items

@@ -10,7 +10,7 @@ use Rattle.vx_txn.proofs.meta.Meta.apply.Goals as goal
 
 pub returns-in_default : goal.returns-in_default
 returns-in_default c = record {
-  done = λ s session laid is. c.changed.ensures.done s session (record { laid_out = laid; is = is });
+  done = λ s session laid plain is. c.changed.ensures.done s session (record { laid_out = laid; plain = plain; is = is });
   copy = c.changed.ensures.copy;
   sound = IfOk-weaker c.changed.result (λ (r : Reply × Reply). IsShort r.0) (λ (r : Reply × Reply). IsSound r.0) (λ r h. short_sound r.0 h) c.changed.ensures.short;
   stays = still_sound c.args.self.now c.changed.new.meta c.requires.sound.state (step c.requires.sound.state c.args.place 0 c.args.call.now) c.changed.new.touched c.changed.result c.requires.sound.stands

@@ -1,4 +1,4 @@
-use Rattle.std.proofs.Common.{rules, ◌≡◌, ℕ, ◌∙◌, ap, ◌+◌, ◌*◌, arith, List, Option, Some, None, ◌++◌, ◌∷◌, []}
+use Rattle.std.proofs.Common.{rules, false, ◌≡◌, ℕ, ◌∙◌, ap, ◌+◌, ◌*◌, arith, List, Option, Some, None, ◌++◌, ◌∷◌, []}
 use Rattle.std.specs.FinMap as map
 use Rattle.std.specs.Ordering.{nat_cmp}
 use Rattle.vx_alloc.specs.FreeMaps.{all_free}
@@ -27,4 +27,4 @@ returns-clause-state c = λ device_sectors.
 pub returns-clause-sound : goal.returns-clause-sound
 returns-clause-sound c =
     let sectors : ℕ = 2 * (2 + c.args.log_blocks + 4096) in
-    record { state = fresh c.args.log_blocks 64 sectors; stands = record { laid_out = fresh_laid_out c.args.log_blocks sectors c.requires (omega arith); is = returns-clause-state c sectors } }
+    record { state = fresh c.args.log_blocks 64 sectors; stands = record { laid_out = fresh_laid_out c.args.log_blocks sectors c.requires (omega arith); plain = c.fresh_reads.ensures.plain (record { log_blocks = c.args.log_blocks; units = 1; clean = false }) 64 sectors; is = returns-clause-state c sectors } }

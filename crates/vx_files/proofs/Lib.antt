@@ -1,0 +1,12 @@
+pub mod Successes
+pub mod Contents
+pub mod Telling
+pub mod Pages
+pub mod Filling
+pub mod Spaces
+pub mod Changing
+pub mod Giving
+pub mod Keeping
+pub mod Reaching
+pub mod Waiting
+pub mod Whole
