@@ -3,15 +3,19 @@ use Rattle.std.proofs.Common.{◌≡◌, ◌≢◌, ℕ, zero, suc, ◌+◌, ◌
 use Rattle.std.specs.Prelude.{◌||◌, ◌==◌, is_some, slice_get}
 use Rattle.std.specs.Option.{option_map}
 use Rattle.std.proofs.lemmas.Bool.{eq-eqb, eqb-true, true≢false, or_parts}
-use Rattle.std.proofs.lemmas.List.{append-nil, take_all, length-map, map-append}
+use Rattle.std.proofs.lemmas.List.{append-nil, append_assoc, take_all, length-map, map-append}
 use Rattle.std.proofs.lemmas.List.Folds.{list_any-append}
 use Rattle.vx_base.specs.declared.kind.Kind.TheVariants.{Data}
 use Rattle.vx_extents.specs.Extents.{Mapped, stretches}
 use Rattle.vx_space.specs.Space.{Space, no_space, page_blocks, maps_for}
-use Rattle.vx_model.specs.Layout.{DirectoryBlock, Layout, Claim, Claimed, blocks_at, space_at, maps_at, block_numbers, owned, pages_from, settled_at, settled_maps, chain_of, chain_at, given_up, claimed_at, claim_among, or_claim, claim_below, claim_of}
+use Rattle.vx_model.specs.Layout.{DirectoryBlock, Layout, Claim, Claimed, blocks_at, space_at, maps_at, block_numbers, owned, pages_from, settled_at, settled_maps, chain_of, chain_at, given_up, claimed_at, claim_among, or_claim, claim_below, claim_of, device_blocks, is_on_device_below, is_on_device}
 use Rattle.vx_model.specs.Images.{among}
 use Rattle.vx_model.specs.Contents.{settled_of}
-use Rattle.vx_model.proofs.Claims.{claimed, claims_split}
+use Rattle.vx_space.specs.Uses.{uses}
+use Rattle.vx_model.specs.State.{State}
+use Rattle.vx_model.specs.LaidOut.{IsLaidOut}
+use Rattle.vx_model.proofs.Claims.{claimed, claims_split, claims_owned, claimed_blocks}
+use Rattle.vx_model.proofs.Uses.{uses_append}
 use Rattle.vx_model.proofs.NextBlock.{page_numbers}
 
 -- ---- numbers in a list
@@ -119,6 +123,48 @@ given_claims l n b h =
     let pages = or_parts (among ns b) (among ps b) (sym (list_any-append (λ y. b == y) ns ps) ∙ two.0) in
     list_any-append (λ y. b == y) ns (ps ++ settled_maps l n)
     ∙ (λ i. pages.0 i || (list_any-append (λ y. b == y) ps (settled_maps l n) ∙ (λ j. pages.1 j || not_taken (maps_for (settled_at l n)) (maps_at l n) b two.1 j)) i)
+
+-- ---- the blocks that the device says an inode has, its map blocks first
+
+or_swap : (a b : Bool) → (a || b) ≡ (b || a)
+or_swap true true = refl
+or_swap true false = refl
+or_swap false true = refl
+or_swap false false = refl
+
+device_are : (l : Layout) (n : ℕ) → device_blocks l n ≡ settled_maps l n ++ (block_numbers (blocks_at l n) ++ page_blocks (space_at l n).settled)
+device_are l n = ap (λ (bs : List ℕ). settled_maps l n ++ bs) (settled_blocks l n)
+
+claimed_are : (l : Layout) (n : ℕ) → numbers_claimed l n ≡ (block_numbers (blocks_at l n) ++ page_blocks (space_at l n).settled) ++ settled_maps l n
+claimed_are l n = sym (append_assoc (block_numbers (blocks_at l n)) (page_blocks (space_at l n).settled) (settled_maps l n))
+
+among_device : (l : Layout) (n b : ℕ) → among (numbers_claimed l n) b ≡ among (device_blocks l n) b
+among_device l n b =
+    let both : List ℕ = block_numbers (blocks_at l n) ++ page_blocks (space_at l n).settled in
+    ap (λ (xs : List ℕ). among xs b) (claimed_are l n) ∙ list_any-append (λ y. b == y) both (settled_maps l n) ∙ or_swap (among both b) (among (settled_maps l n) b)
+    ∙ sym (list_any-append (λ y. b == y) (settled_maps l n) both) ∙ ap (λ (xs : List ℕ). among xs b) (sym (device_are l n))
+
+module _ (l : Layout) (b : ℕ) where
+  on_device_below : (n : ℕ) → is_some (claim_below l b n) ≡ is_on_device_below l b n
+  unfolding claim_below is_on_device_below
+  on_device_below zero = refl
+  on_device_below (suc n) =
+      some_or (claim_among n b (claimed_at l n)) (claim_below l b n)
+      ∙ (λ i. (claimed n b (claimed_at l n) ∙ ap (λ (xs : List ℕ). among xs b) (claims_split l n) ∙ among_device l n b) i || on_device_below n i)
+
+  pub claimed_on_device : is_some (claim_of l b) ≡ is_on_device l b
+  claimed_on_device = on_device_below (128 * l.units)
+
+pub device_within : (s : State) → IsLaidOut s → (n b : ℕ) → uses (device_blocks s.layout n) b ≤ uses (owned s.layout n) b
+device_within s is n b =
+    let l : Layout = s.layout in
+    let both : List ℕ = block_numbers (blocks_at l n) ++ page_blocks (space_at l n).settled in
+    let low = claims_owned s is n b in
+    let said : uses (claimed_blocks (claimed_at l n)) b ≡ uses (both ++ settled_maps l n) b = ap (λ (xs : List ℕ). uses xs b) (claims_split l n ∙ claimed_are l n) in
+    let device : uses (device_blocks l n) b ≡ uses (settled_maps l n ++ both) b = ap (λ (xs : List ℕ). uses xs b) (device_are l n) in
+    let one_way = uses_append both (settled_maps l n) b in
+    let other_way = uses_append (settled_maps l n) both b in
+    omega (arith, low, said, device, one_way, other_way)
 
 -- an inode whose pages are all on the device claims all that it has
 pub record IsWhole (l : Layout) (n : ℕ) : Type 0 where

@@ -5,6 +5,7 @@ use Rattle.std.proofs.Math.Bool.{and-true}
 use Rattle.std.specs.Option.{option_and_then}
 use Rattle.std.specs.FinMap as map
 use Rattle.std.specs.Ordering.{nat_cmp}
+use Rattle.std.specs.Cmp.{nat_cmp_total}
 use Rattle.std.proofs.lemmas.Bool.{cases_lt, cases_eq, cases_Bool, ne_eqb}
 use Rattle.vx_base.proofs.Maps.{at_key, at_other}
 use Rattle.vx_base.specs.declared.call.ExtAttrs.{ExtAttrs}
@@ -113,6 +114,12 @@ plain_by s data_at plain n (Some (IsDirectory d)) at = refl
 
 pub plain_settled : (s : State) (data_at : ℕ → List ℕ) → IsLaidOut s → IsPlain s → IsSettledTree s data_at s.tree
 plain_settled s data_at is plain = record { nodes = λ n. plain_by s data_at plain n (map.get s.tree.nodes n) refl; rest = plain.rest }
+
+-- a tree is what it has at each number
+pub settled_once : (s : State) (data_at : ℕ → List ℕ) (t u : Tree) → IsSettledTree s data_at t → IsSettledTree s data_at u → t ≡ u
+settled_once s data_at t u a b =
+    let nodes : t.nodes ≡ u.nodes = map.same_map nat_cmp_total map.nat_cmp-IsAntisymmetric t.nodes u.nodes (λ n. a.nodes n ∙ sym (b.nodes n)) in
+    a.rest ∙ ap tree_of_nodes nodes ∙ sym b.rest
 
 -- ---- and nothing is held
 

@@ -112,6 +112,18 @@ chain_at l n = chain_of n (drop 6 (stretches (settled_at l n))) (settled_maps l 
 abbrev pub claimed_at : Layout → ℕ → List Claimed
 claimed_at l n = map names_claimed (blocks_at l n) ++ (map page_claimed (space_at l n).settled ++ chain_at l n)
 
+-- the blocks of these, its map blocks first
+abbrev pub device_blocks : Layout → ℕ → List ℕ
+device_blocks l n = settled_maps l n ++ page_blocks (settled_at l n)
+
+-- the device says that an inode below n has the block
+unfoldable pub is_on_device_below : Layout → ℕ → ℕ → Bool
+is_on_device_below l b zero = false
+is_on_device_below l b (suc n) = among (device_blocks l n) b || is_on_device_below l b n
+
+abbrev pub is_on_device : Layout → ℕ → Bool
+is_on_device l b = is_on_device_below l b (128 * l.units)
+
 -- the inode that has a block, and what stands there
 pub record Claim : Type 0 where
   pub ino : ℕ

@@ -9,7 +9,8 @@ ghost use Rattle.vx_model.specs.Tree.{Nodes, Tree, File, empty_root, lowest_unus
 ghost use Rattle.vx_model.specs.Handles.{is_open};
 ghost use Rattle.vx_model.specs.Removing.{is_last};
 ghost use Rattle.vx_model.specs.State.{State, directory_blocks, fresh_of};
-ghost use Rattle.vx_model.specs.Layout.{Claimed, DirectoryBlock, volume, blocks_at, chain_at, claimed_at, claim_of, is_owned};
+ghost use Rattle.vx_model.specs.Layout.{Claimed, DirectoryBlock, volume, blocks_at, chain_at, claimed_at, claim_of, device_blocks, is_on_device, is_owned, owned};
+ghost use Rattle.vx_space.specs.Uses.{uses};
 ghost use Rattle.vx_model.specs.Images.{Stands};
 ghost use Rattle.vx_model.specs.Reads.{ImageReadsAs};
 ghost use Rattle.vx_model.specs.Contents.{parsed_of, IsFormatted};
@@ -28,8 +29,9 @@ pub fn state_reads()
     // There is such a tree, and its names and attributes are those of the state.
     ensures tree { (s : State) (data_at : ℕ → List ℕ) → IsLaidOut s → (t : Tree) × IsSettledTree s data_at t }
     ensures shape { (s : State) (data_at : ℕ → List ℕ) (t : Tree) → IsSettledTree s data_at t → (n : ℕ) → shape t n ≡ shape s.tree n }
-    // Where no file has bytes, it is the state's own.
+    // Where no file has bytes, it is the state's own, and no other.
     ensures plain { (s : State) (data_at : ℕ → List ℕ) → IsLaidOut s → IsPlain s → IsSettledTree s data_at s.tree }
+    ensures own { (s : State) (data_at : ℕ → List ℕ) (t : Tree) → IsLaidOut s → IsPlain s → IsSettledTree s data_at t → t ≡ s.tree }
 {
     state_says();
 }
@@ -64,7 +66,10 @@ pub fn claims()
     ensures claimed { (s : State) (n k : ℕ) (c : Claimed) → IsLaidOut s → slice_get (claimed_at s.layout n) k ≡ Some c → claim_of s.layout c.block ≡ Some (record { ino = n; form = c.form }) }
     ensures block { (s : State) (n i : ℕ) (d : DirectoryBlock) → IsLaidOut s → slice_get (blocks_at s.layout n) i ≡ Some d → claim_of s.layout d.block ≡ Some (record { ino = n; form = Some (Entries d.entries) }) }
     ensures map_block { (s : State) (n k : ℕ) (c : Claimed) → IsLaidOut s → slice_get (chain_at s.layout n) k ≡ Some c → claim_of s.layout c.block ≡ Some (record { ino = n; form = c.form }) }
-    // Where nothing is held, these are all that the inodes have.
+    // These are the blocks that the device says an inode has, and some of those that it has.
+    ensures on_device { (s : State) (b : ℕ) → is_some (claim_of s.layout b) ≡ is_on_device s.layout b }
+    ensures within { (s : State) (n b : ℕ) → IsLaidOut s → uses (device_blocks s.layout n) b ≤ uses (owned s.layout n) b }
+    // Where nothing is held, they are all.
     ensures owned { (s : State) (b : ℕ) → IsLaidOut s → ((n : ℕ) → IsOnDevice s.layout n) → is_some (claim_of s.layout b) ≡ is_owned s.layout b }
 {}
 

@@ -1,6 +1,7 @@
 -- States whose images pass the image check.
 use Rattle.std.specs.Prelude.{◌≡◌, ℕ, ◌≤◌, List, [], Some}
 use Rattle.std.specs.List.{AllByRecursion}
+use Rattle.std.specs.FinMap as map
 use Rattle.vx_base.specs.declared.call.Call.{Call}
 use Rattle.vx_base.specs.declared.call.Call.TheVariants as call
 use Rattle.vx_base.specs.declared.event.Event.{Event}
@@ -9,6 +10,7 @@ use Rattle.vx_layout.specs.Places.{sectors_of}
 use Rattle.vx_layout.specs.Supers.{IsSuper, volume_of}
 use Rattle.vx_layout.specs.declared.superblock.Super.{Super}
 use Rattle.vx_sound.specs.Facts.{AreNamesRight}
+use Rattle.vx_model.specs.Tree.{File, IsFile}
 use Rattle.vx_model.specs.State.{State, Done, fresh_of}
 use Rattle.vx_model.specs.Step.{step}
 use Rattle.vx_model.specs.Layout.{Layout, blocks_at}
@@ -27,6 +29,10 @@ pub record IsConsistent (s : State) : Type 0 where
   pub names : HasNames s.layout
   pub links : HasLinks s
   pub no_loops : HasNoLoops s.tree.nodes
+
+-- no file is without a name
+abbrev pub AreNamed : State → Type 0
+AreNamed s = (n : ℕ) (f : File) → map.get s.tree.nodes n ≡ Some (IsFile f) → 1 ≤ f.nlink
 
 -- So it is, and no file has bytes.
 pub record IsWellFormed (s : State) : Type 0 where

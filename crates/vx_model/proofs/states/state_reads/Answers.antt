@@ -13,3 +13,6 @@ returns-clause-shape c = trees.settled_shape
 
 pub returns-clause-plain : goal.returns-clause-plain
 returns-clause-plain c = trees.plain_settled
+
+pub returns-clause-own : goal.returns-clause-own
+returns-clause-own c s data_at t is plain settled = trees.settled_once s data_at t s.tree settled (trees.plain_settled s data_at is plain)
