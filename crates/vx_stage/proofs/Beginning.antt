@@ -24,7 +24,7 @@ use Rattle.vx_model.specs.AllowedLaws.{IsPlaced}
 use Rattle.vx_model.specs.Contents.{parsed_of}
 use Rattle.vx_model.specs.Images.{is_metadata, contents, content_at}
 use Rattle.vx_model.specs.Legal.{World, Waiting, Legal, opening, at_of, after_all}
-use Rattle.vx_model.specs.Replays.{ReplaysAs}
+use Rattle.vx_model.specs.Settled.{ReplaysSettled}
 use Rattle.vx_model.specs.State.{State}
 use Rattle.vx_model.specs.LaidOut.{HoldsData}
 use Rattle.vx_model.specs.Waiting.{IsNamed}
@@ -210,7 +210,7 @@ module _ (laws : KernelLaws) (v : Super) (s : State) (is_super : IsSuper v) (m :
   IsMarked t = Level t × Settles t 0 super
 
   abbrev pub Same : (ℕ → List ℕ) → Type 0
-  Same image = ReplaysAs s.layout.device_sectors image s.tree
+  Same image = ReplaysSettled s image
 
   shown : (d : Device) → Told d Level → Told d (λ t. (image : ℕ → List ℕ) → IsImage t image → Same image)
   shown d h = told_weaker d Level (λ t. (image : ℕ → List ℕ) → IsImage t image → Same image) (level_replays laws v s is_super m serial position) h

@@ -25,7 +25,7 @@ use Rattle.vx_model.specs.Legal.{World, Waiting, DoAllowed, RetAllowed, IfThere,
 use Rattle.vx_model.specs.Step.{step}
 use Rattle.vx_model.specs.State.{State, Done}
 use Rattle.vx_model.specs.Waiting.{Waits, WaitingLaws}
-use Rattle.vx_wellformed.specs.WellFormed.{IsWellFormed, WellFormedLaws}
+use Rattle.vx_wellformed.specs.WellFormed.{IsConsistent, WellFormedLaws}
 use Rattle.vx_stage.specs.Growths.{called_state, IsGrowth, KeepsApart, IsInUse, MayDo, MayRefuse, MayAnswer, MayStop}
 use Rattle.vx_stage.specs.KernelLaws.{KernelLaws}
 use Rattle.vx_stage.specs.Kernels.{IsMounted, HasRun, present}
@@ -69,9 +69,9 @@ call_waits laws o d k session line call reply run allowed = subst (λ (place : �
     by_cases false None is there = absurd there
     by_cases false (Some done) is there = laws.step s n session call done is
 
-mounted_on : (v : Super) (s new : State) (place : ℕ) → IsMounted v s → IsWellFormed new → Waits place s new → IsMounted v new
-mounted_on v s new place is well_formed waits = record {
-  well_formed = well_formed;
+mounted_on : (v : Super) (s new : State) (place : ℕ) → IsMounted v s → IsConsistent new → Waits place s new → IsMounted v new
+mounted_on v s new place is consistent waits = record {
+  consistent = consistent;
   log_blocks = omega (arith, ap (λ (w : Volume). w.first) waits.same_volume, is.log_blocks);
   units = ap (λ (w : Volume). w.units) waits.same_volume ∙ is.units;
 }
@@ -87,7 +87,7 @@ module _ (laws : WaitingLaws) (well : WellFormedLaws) (o : World) (d : Device) (
     placed = tt;
     earned = tt;
     mounted = mounted_on k.sizes (present o k) (called_state o k session call reply) (length k.history.items) run.mounted_now
-        (well.event (after_all o k.history.items) (event.Do at session line call reply) run.mounted_now.well_formed may.laid_out) waits;
+        (well.consistent_event (after_all o k.history.items) (event.Do at session line call reply) run.mounted_now.consistent may.laid_out) waits;
     pending = λ b p is. waits_on (length k.history.items) p _ _ (waits.pending b) is;
     young = λ place b from inside young. young_on (length k.history.items) place b (present o k) (called_state o k session call reply) inside waits young;
   }
@@ -113,7 +113,7 @@ refused_may o d k session line call why run may = record {
     reply_is = there (step (present o k) (after_all o k.history.items).next session call) may.built;
     all_released = λ short b. absurd (not_space why may.any_time short);
   };
-  laid_out = subst IsLaidOut (sym (refused_state o k session call why may.any_time)) run.mounted_now.well_formed.laid_out;
+  laid_out = subst IsLaidOut (sym (refused_state o k session call why may.any_time)) run.mounted_now.consistent.laid_out;
 }
   where
     there : (x : Option Done) → IfThere x (λ _. Unit {0}) → IfThere x (λ done. (say.Refused why ≡ done.reply) ⊎ (is_fault (say.Refused why) ≡ true))
@@ -188,7 +188,7 @@ release_grows well o d k at at_is run mounted = record {
   at = at_is;
   placed = tt;
   earned = tt;
-  mounted = record { well_formed = well.released (present o k) k.committed run.mounted_now.well_formed; log_blocks = run.mounted_now.log_blocks; units = run.mounted_now.units };
+  mounted = record { consistent = well.consistent_released (present o k) k.committed run.mounted_now.consistent; log_blocks = run.mounted_now.log_blocks; units = run.mounted_now.units };
   pending = λ b p is. inl (kept_some k.committed p ((present o k).layout.pending b) is);
   young = λ place b from inside young. elim young [
     | inl named ↦ inl named

@@ -10,7 +10,7 @@ use Rattle.vx_mkfs.specs.Formats.{IsNewImage}
 use Rattle.vx_model.specs.Contents.{parsed_of, IsFormatted}
 use Rattle.vx_model.specs.Images as images
 use Rattle.vx_model.specs.Images.{is_metadata, contents}
-use Rattle.vx_wellformed.specs.WellFormed.{IsWellFormed}
+use Rattle.vx_wellformed.specs.WellFormed.{IsConsistent}
 use Rattle.vx_model.specs.State.{State, directory_blocks, fresh_of}
 use Rattle.vx_stage.specs.Kernels.{mounted_super, IsMounted, IsBegun}
 
@@ -18,8 +18,8 @@ module _ (v : Super) (device_sectors : ℕ) where
   abbrev pub new : State
   new = fresh_of v directory_blocks device_sectors
 
-  pub mounted : IsWellFormed new → IsMounted v new
-  mounted well_formed = record { well_formed = well_formed; log_blocks = refl; units = refl }
+  pub mounted : IsConsistent new → IsMounted v new
+  mounted consistent = record { consistent = consistent; log_blocks = refl; units = refl }
 
   module _ (stands : (image : ℕ → List ℕ) → IsFormatted (volume_of v) image → images.Stands (volume_of v) (parsed_of new) image)
       (holds : (image : ℕ → List ℕ) → images.Stands (volume_of v) (parsed_of new) image → (q : ℕ) → IsTrue (is_metadata (volume_of v) (parsed_of new) q) → image q ≡ contents (volume_of v) (parsed_of new) q) where

@@ -31,7 +31,7 @@ use Rattle.vx_dev.specs.Moments.{Told, Past}
 use Rattle.vx_model.specs.Allowed.{come_by, call_of, call_at, is_refusal}
 use Rattle.vx_model.specs.AllowedLaws.{IsPlaced, IsQuiet}
 use Rattle.vx_model.specs.Legal.{World, Waiting, at_of, after, after_all, Legal}
-use Rattle.vx_model.specs.Replays.{IsLeft}
+use Rattle.vx_model.specs.Settled.{IsLeftSettled}
 use Rattle.vx_model.specs.Shapes.{shape}
 use Rattle.vx_model.specs.State.{State}
 use Rattle.vx_model.proofs.Runs.{after_all-append, Legal-push}
@@ -346,7 +346,7 @@ module _ (o : World) (d : Device) (k : Kernel) (e : Event) (run : HasRun o d k) 
         now_grows TailOut r t quiet is = (committed_log r is.0, turning_grows r t is.1)
         now_grows Leave r t quiet is = level_grows t is
         now_grows LeaveOut r t quiet is = (level_grows t is.0, subst (λ (v : Super). Settles t 0 (super_bytes (clean_super v))) (sym sizes) is.1)
-        now_grows Left r t quiet is = (level_grows t is.0, on_committed (λ s. IsLeft s.layout.device_sectors s.tree t) is.1)
+        now_grows Left r t quiet is = (level_grows t is.0, on_committed (λ s. IsLeftSettled s t) is.1)
         now_grows Broken r t quiet is = λ image at. subst (λ (x : Logging). IsAllowed x o k2.history.items (length t.ops) image) (sym logging)
             (on_items (λ es. IsAllowed k.logging o es (length t.ops) image) (stays o d k e run.placed (length t.ops) image (quiet (length t.ops) refl refl) (is image at)))
 

@@ -18,7 +18,7 @@ use Rattle.vx_log.specs.Batches.{noted_at}
 use Rattle.vx_model.specs.Allowed.{call_at}
 use Rattle.vx_model.specs.AllowedLaws.{IsPlaced}
 use Rattle.vx_model.specs.Legal.{World, Allowed, Legal, at_of, after_all}
-use Rattle.vx_model.specs.Replays.{IsLeft}
+use Rattle.vx_model.specs.Settled.{IsLeftSettled}
 use Rattle.vx_model.specs.State.{State}
 use Rattle.vx_model.specs.Waiting.{IsNamed}
 use Rattle.vx_model.proofs.Runs.{after_all-append, Legal-push}
@@ -180,7 +180,7 @@ module _ (o : World) (d : Device) (k : Kernel) (run : HasRun o d k) (over : IsOv
       reading = live.reading;
       now = (
         subst (λ (s : State). IsLevel k.sizes s k.log.serial k.log.head t) same_state live.now.0,
-        subst (λ (s : State). IsLeft s.layout.device_sectors s.tree t) same_state live.now.1,
+        subst (λ (s : State). IsLeftSettled s t) same_state live.now.1,
       );
     }
 
@@ -192,6 +192,6 @@ module _ (o : World) (d : Device) (k : Kernel) (run : HasRun o d k) (over : IsOv
         by_cases (Some t) count live = gone_at t count live
 
     -- a crash leaves one image, clean, which reads as the tree
-    pub gone_left : Told d (IsLive o gone) → Told d (IsLeft (present o k).layout.device_sectors (present o k).tree)
-    gone_left told = told_weaker d (IsLive o gone) (IsLeft (present o k).layout.device_sectors (present o k).tree) (λ t live. subst (λ (s : State). IsLeft s.layout.device_sectors s.tree t)
+    pub gone_left : Told d (IsLive o gone) → Told d (IsLeftSettled (present o k))
+    gone_left told = told_weaker d (IsLive o gone) (IsLeftSettled (present o k)) (λ t live. subst (λ (s : State). IsLeftSettled s t)
         (on_items (λ es. state_at o es n ≡ present o k) (whole_state o d k e n (omega (arith, n_is)) (omega (arith, n_is, one_more h e)))) live.now.1) told

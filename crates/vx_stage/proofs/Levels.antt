@@ -16,7 +16,10 @@ use Rattle.vx_model.specs.Images as images
 use Rattle.vx_model.specs.Images.{is_metadata, contents, content_at}
 use Rattle.vx_model.specs.Legal.{World}
 use Rattle.vx_model.specs.Reads.{ImageReadsAs}
-use Rattle.vx_model.specs.Replays.{IsLeft, ReplaysAs}
+use Rattle.vx_model.specs.Layout.{volume}
+use Rattle.vx_model.specs.Settled.{IsLeftSettled, IsSettledTree, ReplaysSettled}
+use Rattle.vx_model.specs.Tree.{Tree}
+use Rattle.vx_sound.specs.Said.{block_bytes}
 use Rattle.vx_model.specs.State.{State}
 use Rattle.vx_sound.specs.Sound.{IsSound}
 use Rattle.vx_stage.specs.Leads.{state_at}
@@ -66,13 +69,13 @@ module _ (laws : KernelLaws) (v : Super) (s : State) (is_super : IsSuper v) (m :
   image_stands : (t : Tape) → Level t → (image : ℕ → List ℕ) → IsImage t image → images.Stands vol (parsed_of s) image
   image_stands t l image is q = held (content_at vol (parsed_of s) q) (image q) (λ there. l.metadata q (image q) there (is q))
 
-  image_reads : (t : Tape) → Level t → (image : ℕ → List ℕ) → IsImage t image → ImageReadsAs vol image s.tree
-  image_reads t l image is = subst (λ (w : Volume). ImageReadsAs w image s.tree) (same_volume v s m)
-      (laws.reads s image m.well_formed.laid_out m.well_formed.plain (subst (λ (w : Volume). images.Stands w (parsed_of s) image) (sym (same_volume v s m)) (image_stands t l image is)))
+  image_reads : (t : Tape) → Level t → (image : ℕ → List ℕ) → IsImage t image → (tree : Tree) → IsSettledTree s (block_bytes (volume s.layout) image) tree → ImageReadsAs vol image tree
+  image_reads t l image is tree settled = subst (λ (w : Volume). ImageReadsAs w image tree) (same_volume v s m)
+      (laws.reads s image tree m.consistent.laid_out (subst (λ (w : Volume). images.Stands w (parsed_of s) image) (sym (same_volume v s m)) (image_stands t l image is)) settled)
 
   image_sound : (t : Tape) → Level t → (image : ℕ → List ℕ) → IsImage t image → IsSound false vol image
   image_sound t l image is = subst (λ (w : Volume). IsSound false w image) (same_volume v s m)
-      (laws.sound s image m.well_formed (subst (λ (w : Volume). images.Stands w (parsed_of s) image) (sym (same_volume v s m)) (image_stands t l image is)))
+      (laws.sound s image m.consistent (subst (λ (w : Volume). images.Stands w (parsed_of s) image) (sym (same_volume v s m)) (image_stands t l image is)))
 
   abbrev super_with : Bool → Super
   super_with clean = record { log_blocks = v.log_blocks; units = v.units; clean = clean }
@@ -80,8 +83,8 @@ module _ (laws : KernelLaws) (v : Super) (s : State) (is_super : IsSuper v) (m :
   is_super_with : (clean : Bool) → IsSuper (super_with clean)
   is_super_with clean = record { log_low = is_super.log_low; log_high = is_super.log_high; units_low = is_super.units_low; units_high = is_super.units_high }
 
-  replays_with : (clean : Bool) (t : Tape) → Level t → (image : ℕ → List ℕ) → IsImage t image → image 0 ≡ super_bytes (super_with clean) → ReplaysAs s.layout.device_sectors image s.tree
-  replays_with clean t l image is super = record {
+  replays_with : (clean : Bool) (t : Tape) → Level t → (image : ℕ → List ℕ) → IsImage t image → image 0 ≡ super_bytes (super_with clean) → ReplaysSettled s image
+  replays_with clean t l image is super = let found = laws.tree s (block_bytes (volume s.layout) image) m.consistent.laid_out in record { tree = found.0; settled = found.1; replays = record {
     first = super_with clean;
     is_first = is_super_with clean;
     first_is = super;
@@ -94,23 +97,24 @@ module _ (laws : KernelLaws) (v : Super) (s : State) (is_super : IsSuper v) (m :
     room = has_room v s m;
     log = record { serial = serial; tail = position; head = position; serial_limit = l.serial_limit; limit = l.limit; form = tt; head_is = l.head (image 2) (is 2); ends = omega arith; fits = omega arith; whole = λ i lt. absurd (omega (arith, lt)) };
     sound = image_sound t l image is;
-    reads = image_reads t l image is;
-  }
+    reads = image_reads t l image is found.0 found.1;
+  } }
 
-  -- whatever a crash leaves replays as the state's tree
-  pub level_replays : (t : Tape) → Level t → (image : ℕ → List ℕ) → IsImage t image → ReplaysAs s.layout.device_sectors image s.tree
+  -- whatever a crash leaves replays as the state's tree with what is settled
+  pub level_replays : (t : Tape) → Level t → (image : ℕ → List ℕ) → IsImage t image → ReplaysSettled s image
   level_replays t l image is = elim (l.superblock (image 0) (is 0)) [
     | inl mounted ↦ replays_with false t l image is mounted
     | inr clean ↦ replays_with true t l image is clean
   ]
 
   -- behind the superblock of a clean file system and a barrier
-  pub left_at : (t : Tape) → Level t → Settles t 0 (super_bytes (clean_super v)) → IsLeft s.layout.device_sectors s.tree (did Barrier t)
+  pub left_at : (t : Tape) → Level t → Settles t 0 (super_bytes (clean_super v)) → IsLeftSettled s (did Barrier t)
   left_at t l settles =
       let l2 : Level (did Barrier t) = level_barrier t l in
       let image : ℕ → List ℕ = now (did Barrier t) in
       let is : IsImage (did Barrier t) image = (λ q. laws.tape.now_may (did Barrier t) q) in
-      record {
+      let found = laws.tree s (block_bytes (volume s.layout) image) m.consistent.laid_out in
+      record { tree = found.0; settled = found.1; left = record {
         one = λ q x may. laws.tape.barrier_leaves_one t q x may;
         clean = record {
           superblock = clean_super v;
@@ -124,9 +128,9 @@ module _ (laws : KernelLaws) (v : Super) (s : State) (is_super : IsSuper v) (m :
           limit = l.limit;
           head_is = l2.head (image 2) (is 2);
           sound = image_sound (did Barrier t) l2 image is;
-          reads = image_reads (did Barrier t) l2 image is;
+          reads = image_reads (did Barrier t) l2 image is found.0 found.1;
         };
-      }
+      } }
 
   -- behind that of a mounted one
   pub begun_at : (t : Tape) → Level t → Settles t 0 (super_bytes (mounted_super v)) → IsBegun v s serial position (did Barrier t)

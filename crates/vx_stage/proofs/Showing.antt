@@ -24,6 +24,8 @@ use Rattle.vx_model.specs.Layout.{volume}
 use Rattle.vx_model.specs.Legal.{World, at_of}
 use Rattle.vx_model.specs.Reads.{ImageReadsAs}
 use Rattle.vx_model.specs.Replays.{ReplaysAs}
+use Rattle.vx_model.specs.Settled.{ReplaysSettled, laid_over}
+use Rattle.vx_sound.specs.Said.{block_bytes}
 use Rattle.vx_model.specs.State.{State}
 use Rattle.vx_sound.specs.Sound.{IsSound}
 use Rattle.vx_model.specs.Allowed.{has_front, HoldsFront, IsAllowed}
@@ -32,14 +34,14 @@ use Rattle.vx_stage.specs.Kernels.{mounted_super, log_size, device_size, IsMount
 use Rattle.vx_stage.specs.KernelLaws.{KernelLaws}
 use Rattle.vx_stage.specs.declared.kernel.Kernel.{Kernel}
 
--- ---- an image that is read so replays as the state's tree
+-- ---- an image that is read so replays as the state's tree with what is settled
 
 pub same_volume : (v : Super) (s : State) → IsMounted v s → volume s.layout ≡ volume_of v
 same_volume v s m = λ i. record { block = 1024; first = 2 + m.log_blocks i; units = m.units i }
 
 -- the device has room for what the superblock says
 pub has_room : (v : Super) (s : State) → IsMounted v s → device_size v ≤ s.layout.device_sectors
-has_room v s m = subst (λ (w : Volume). sectors_of w ≤ s.layout.device_sectors) (same_volume v s m) m.well_formed.laid_out.room
+has_room v s m = subst (λ (w : Volume). sectors_of w ≤ s.layout.device_sectors) (same_volume v s m) m.consistent.laid_out.room
 
 -- on a larger device records may name as many sectors at least
 wider_names : (n few many : ℕ) → few ≤ many → (ss : List ℕ) → AllByRecursion (IsNameable n few) ss → AllByRecursion (IsNameable n many) ss
@@ -51,13 +53,15 @@ wider_forms n few many le [] h = tt
 wider_forms n few many le (r ∷ rs) h = (record { some = h.0.some; few = h.0.few; rising = h.0.rising; homes = wider_names n few many le (homes_of r) h.0.homes }, wider_forms n few many le rs h.1)
 
 module _ (laws : KernelLaws) where
-  pub replays : (v : Super) (s : State) (r : LogState) (image : ℕ → List ℕ) → IsSuper v → IsMounted v s → IsReadingOf v s r → ReadsAs (log_size v) r image → ReplaysAs s.layout.device_sectors image s.tree
+  pub replays : (v : Super) (s : State) (r : LogState) (image : ℕ → List ℕ) → IsSuper v → IsMounted v s → IsReadingOf v s r → ReadsAs (log_size v) r image → ReplaysSettled s image
   replays v s r image is_super m k reads =
       let over : ℕ → List ℕ = λ q. overlay_all r.records q (image q) in
       let stands : images.Stands (volume_of v) (parsed_of s) over = laws.says_stands v (parsed_of s) r image k.says reads in
       let super_is : image 0 ≡ super_bytes (mounted_super v) = sym (k.unnamed (image 0)) ∙ reads.metadata 0 k.superblock ∙ k.superblock_is in
       let mounted : IsSuper (mounted_super v) = record { log_low = is_super.log_low; log_high = is_super.log_high; units_low = is_super.units_low; units_high = is_super.units_high } in
-      record {
+      let here : images.Stands (volume s.layout) (parsed_of s) over = subst (λ (w : Volume). images.Stands w (parsed_of s) over) (sym (same_volume v s m)) stands in
+      let found = laws.tree s (block_bytes (volume s.layout) over) m.consistent.laid_out in
+      record { tree = found.0; settled = found.1; replays = record {
         first = mounted_super v;
         is_first = mounted;
         first_is = super_is;
@@ -69,9 +73,9 @@ module _ (laws : KernelLaws) where
         same_log = refl;
         room = has_room v s m;
         log = record { serial = r.serial; tail = r.tail; head = r.head; serial_limit = k.serial; limit = k.limit; form = wider_forms (log_size v) (device_size v) s.layout.device_sectors (has_room v s m) r.records k.form; head_is = reads.head_is; ends = reads.ends; fits = reads.fits; whole = reads.whole };
-        sound = subst (λ (w : Volume). IsSound false w over) (same_volume v s m) (laws.sound s over m.well_formed (subst (λ (w : Volume). images.Stands w (parsed_of s) over) (sym (same_volume v s m)) stands));
-        reads = subst (λ (w : Volume). ImageReadsAs w over s.tree) (same_volume v s m) (laws.reads s over m.well_formed.laid_out m.well_formed.plain (subst (λ (w : Volume). images.Stands w (parsed_of s) over) (sym (same_volume v s m)) stands));
-      }
+        sound = subst (λ (w : Volume). IsSound false w over) (same_volume v s m) (laws.sound s over m.consistent here);
+        reads = subst (λ (w : Volume). ImageReadsAs w over found.0) (same_volume v s m) (laws.reads s over found.0 m.consistent.laid_out here found.1);
+      } }
 
 -- ---- and is allowed
 
@@ -96,14 +100,14 @@ module _ (o : World) (d : Device) (k : Kernel) (run : HasRun o d k) where
       later None place h = tt
       later (Some c) place h = λ front. omega (arith, le, h front)
 
-  pub allowed : KernelLaws → (i m : ℕ) (image : ℕ → List ℕ) → k.committed ≤ i → i ≤ length k.history.items → d.count ≤ m → ReplaysAs (state_at o k.history.items i).layout.device_sectors image (state_at o k.history.items i).tree → IsAllowed k.logging o k.history.items m image
+  pub allowed : KernelLaws → (i m : ℕ) (image : ℕ → List ℕ) → k.committed ≤ i → i ≤ length k.history.items → d.count ≤ m → ReplaysSettled (state_at o k.history.items i) image → IsAllowed k.logging o k.history.items m image
   allowed laws i m image low high late is = record {
-    tree = (state_at o k.history.items i).tree;
-    replays = subst (λ (sectors : ℕ). ReplaysAs sectors image (state_at o k.history.items i).tree) (laws.allowed.device o (take i k.history.items)) is;
+    tree = is.tree;
+    replays = subst (λ (sectors : ℕ). ReplaysAs sectors image is.tree) (laws.allowed.device o (take i k.history.items)) is.replays;
     events = i;
     durable = front_on i m low;
     come = omega (arith, high, all_in k.history.items d.count m late run.come);
-    shape_is = λ n. refl;
+    shape_is = laws.shape_is (state_at o k.history.items i) (block_bytes (volume (state_at o k.history.items i).layout) (laid_over is.replays.records image)) is.tree is.settled;
   }
 
 -- ---- operations, and each moment of them

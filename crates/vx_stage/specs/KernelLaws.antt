@@ -23,13 +23,17 @@ use Rattle.vx_model.specs.AllowedLaws.{AllowedLaws}
 use Rattle.vx_model.specs.Contents.{parsed_of}
 use Rattle.vx_model.specs.Images as images
 use Rattle.vx_model.specs.Images.{Parsed, content_at, is_metadata, Says}
-use Rattle.vx_model.specs.LaidOut.{IsLaidOut, IsPlain}
+use Rattle.vx_model.specs.LaidOut.{IsLaidOut}
 use Rattle.vx_model.specs.Legal.{with_released}
 use Rattle.vx_model.specs.Layout.{volume}
 use Rattle.vx_model.specs.Reads.{ImageReadsAs}
+use Rattle.vx_model.specs.Settled.{IsSettledTree}
+use Rattle.vx_model.specs.Shapes.{shape}
+use Rattle.vx_model.specs.Tree.{Tree}
+use Rattle.vx_sound.specs.Said.{block_bytes}
 use Rattle.vx_model.specs.State.{State}
 use Rattle.vx_sound.specs.Sound.{IsSound}
-use Rattle.vx_wellformed.specs.WellFormed.{IsWellFormed}
+use Rattle.vx_wellformed.specs.WellFormed.{IsConsistent}
 
 pub record KernelLaws : Type 0 where
   -- ---- images
@@ -40,8 +44,11 @@ pub record KernelLaws : Type 0 where
       → content_at (volume_of v) p (block_sector 2 b + i) ≡ option_map (λ x. sector_part i (form_bytes 1024 x)) (p.forms b)
   -- and a block with a form is one of the metadata
   pub formed : (s : State) (b : ℕ) → is_some ((parsed_of s).forms b) ≡ true → IsNamed s b
-  pub reads : (s : State) (image : ℕ → List ℕ) → IsLaidOut s → IsPlain s → images.Stands (volume s.layout) (parsed_of s) image → ImageReadsAs (volume s.layout) image s.tree
-  pub sound : (s : State) (image : ℕ → List ℕ) → IsWellFormed s → images.Stands (volume s.layout) (parsed_of s) image → IsSound false (volume s.layout) image
+  -- an image reads as the state's tree with what is settled of its files; there is one, with the state's names and attributes
+  pub reads : (s : State) (image : ℕ → List ℕ) (t : Tree) → IsLaidOut s → images.Stands (volume s.layout) (parsed_of s) image → IsSettledTree s (block_bytes (volume s.layout) image) t → ImageReadsAs (volume s.layout) image t
+  pub tree : (s : State) (data_at : ℕ → List ℕ) → IsLaidOut s → (t : Tree) × IsSettledTree s data_at t
+  pub shape_is : (s : State) (data_at : ℕ → List ℕ) (t : Tree) → IsSettledTree s data_at t → (n : ℕ) → shape t n ≡ shape s.tree n
+  pub sound : (s : State) (image : ℕ → List ℕ) → IsConsistent s → images.Stands (volume s.layout) (parsed_of s) image → IsSound false (volume s.layout) image
   pub released : (s : State) (upto : ℕ) → parsed_of (with_released s upto) ≡ parsed_of s
   -- ---- batches
   pub records : (batch : List AfterImage) (s : ℕ) (x : List ℕ) → overlay_all (records_of batch) s x ≡ overlay batch s x

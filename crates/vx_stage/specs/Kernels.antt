@@ -18,9 +18,9 @@ use Rattle.vx_model.specs.AllowedLaws.{IsPlaced}
 use Rattle.vx_model.specs.Contents.{parsed_of}
 use Rattle.vx_model.specs.Images as images
 use Rattle.vx_model.specs.Images.{Says, is_metadata, contents}
-use Rattle.vx_wellformed.specs.WellFormed.{IsWellFormed}
+use Rattle.vx_wellformed.specs.WellFormed.{IsConsistent}
 use Rattle.vx_model.specs.Legal.{World, Waiting, Legal, at_of, after_all}
-use Rattle.vx_model.specs.Replays.{IsLeft}
+use Rattle.vx_model.specs.Settled.{IsLeftSettled}
 use Rattle.vx_model.specs.State.{State}
 use Rattle.vx_model.specs.LaidOut.{HoldsData}
 use Rattle.vx_model.specs.Waiting.{IsNamed}
@@ -52,7 +52,7 @@ abbrev pub IsInside : Super → ℕ × List ℕ → Type 0
 IsInside v e = (4 + log_size v ≤ e.0) × (e.0 < device_size v)
 
 pub record IsMounted (v : Super) (s : State) : Type 0 where
-  pub well_formed : IsWellFormed s
+  pub consistent : IsConsistent s
   pub log_blocks : s.layout.log_blocks ≡ v.log_blocks
   pub units : s.layout.units ≡ v.units
 
@@ -199,7 +199,7 @@ Now k Tail o r t = IsLogOf o k k.committed r × Stands (log_size k.sizes) r t ×
 Now k TailOut o r t = IsLogOf o k k.committed r × IsTurning o k r t
 Now k Leave o r t = IsLevel k.sizes (state_at o k.history.items k.committed) k.log.serial k.log.head t
 Now k LeaveOut o r t = IsLevel k.sizes (state_at o k.history.items k.committed) k.log.serial k.log.head t × Settles t 0 (super_bytes (clean_super k.sizes))
-Now k Left o r t = IsLevel k.sizes (state_at o k.history.items k.committed) k.log.serial k.log.head t × IsLeft (state_at o k.history.items k.committed).layout.device_sectors (state_at o k.history.items k.committed).tree t
+Now k Left o r t = IsLevel k.sizes (state_at o k.history.items k.committed) k.log.serial k.log.head t × IsLeftSettled (state_at o k.history.items k.committed) t
 Now k Broken o r t = (image : ℕ → List ℕ) → IsImage t image → IsAllowed k.logging o k.history.items (length t.ops) image
 
 -- each image of an earlier moment is allowed, and this is known of those of now

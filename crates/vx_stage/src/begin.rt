@@ -8,7 +8,7 @@ ghost use Rattle.vx_dev.specs.Tape.{IsInStep, State as Device, Tape, now};
 ghost use Rattle.vx_layout.specs.Supers.{IsSuper};
 ghost use Rattle.vx_dev.specs.Moments.{Told, Always};
 ghost use Rattle.vx_model.specs.Legal.{opening};
-ghost use Rattle.vx_model.specs.Replays.{ReplaysAs};
+ghost use Rattle.vx_model.specs.Settled.{ReplaysSettled};
 ghost use Rattle.vx_model.specs.State.{State, directory_blocks, fresh_of};
 ghost use Rattle.vx_stage.specs.Kernels.{log_size, device_size, IsFit, IsFitAlone, IsMounted, IsLeftAs, IsBegun, HasRun, IsLive};
 ghost use Rattle.vx_stage.specs.declared.kernel.Job.TheVariants.{Idle};
@@ -23,7 +23,7 @@ use vx_log::{Batch, Log};
 use vx_mkfs::make;
 use vx_model::images::metadata;
 use vx_model::states::fresh_reads;
-use vx_wellformed::laws::well_formed_laws;
+use vx_wellformed::laws::{state_sound, well_formed_laws};
 
 /// The sector of the superblock.
 const SUPER_SECTOR: u64 = 0;
@@ -73,7 +73,7 @@ impl Kernel {
 }
 
 /// Makes the superblock that of a mounted file system, where the device holds an image that was left clean: a barrier, the superblock, a
-/// barrier. From the first barrier on whatever a crash leaves replays as the same tree.
+/// barrier. From the first barrier on whatever a crash leaves replays as the same tree, with the files as they stand on the device.
 ///
 /// # Errors
 ///
@@ -84,7 +84,7 @@ pub fn mark<D: BlockDev>(dev: &mut D, sizes: &Super) -> Result<(), DevFault>
     ensures begun { (s : State) (serial position : ℕ) (t : Tape) → IsMounted sizes.now s → (D.state dev.old).told ≡ Some t → IsLeftAs sizes.now s serial position (now t)
         → OnOk result (Told (D.state dev.new) (IsBegun sizes.now s serial position)) }
     ensures kept { (s : State) (serial position : ℕ) (t : Tape) → IsMounted sizes.now s → (D.state dev.old).told ≡ Some t → IsLeftAs sizes.now s serial position (now t)
-        → Told (D.state dev.new) (Always (length t.ops + 1) (λ _ image. ReplaysAs s.layout.device_sectors image s.tree)) }
+        → Told (D.state dev.new) (Always (length t.ops + 1) (λ _ image. ReplaysSettled s image)) }
     ensures untold { (D.state dev.old).told ≡ None → (D.state dev.new).told ≡ None }
     ensures onward { Onward (D.state dev.old) (D.state dev.new) }
     ensures count { OnOk result ((D.state dev.new).count ≡ (D.state dev.old).count + 3) }
@@ -137,6 +137,7 @@ pub fn new_mount<D: BlockDev>(
     kernel_laws();
     fresh_reads();
     well_formed_laws();
+    state_sound();
     metadata();
     let superblock = Super {
         log_blocks: sizes.log_blocks,
@@ -173,9 +174,9 @@ pub fn mount_image<D: BlockDev>(
     ensures run { (s : State) → IsMounted sizes s → ((b : ℕ) → s.layout.pending b ≡ None) → IfOk result (HasRun (opening (D.state dev.new).count s) (D.state dev.new)) }
     ensures live { (s : State) (t : Tape) → IsMounted sizes s → (D.state dev.old).told ≡ Some t → IsLeftAs sizes s room.log.serial room.log.head (now t)
         → IfOk result (λ k. Told (D.state dev.new) (IsLive (opening (D.state dev.new).count s) k)) }
-    // From the first barrier on whatever a crash leaves replays as the tree that was left.
+    // From the first barrier on whatever a crash leaves replays as the tree that was left, with the files as they stand on the device.
     ensures kept { (s : State) (t : Tape) → IsMounted sizes s → (D.state dev.old).told ≡ Some t → IsLeftAs sizes s room.log.serial room.log.head (now t)
-        → Told (D.state dev.new) (Always (length t.ops + 1) (λ _ image. ReplaysAs s.layout.device_sectors image s.tree)) }
+        → Told (D.state dev.new) (Always (length t.ops + 1) (λ _ image. ReplaysSettled s image)) }
     ensures empty { IfOk result (λ k. k.history.items ≡ []) }
     ensures same { IfOk result (λ k. k ≡ record { sizes = sizes; logging = logging; first = (D.state dev.new).count; log = room.log; homes = room.homes; gathered = room.gathered; ready = Some room.ready; job = Idle; committed = 0; closing = 0; history = room.history }) }
     ensures untold { (D.state dev.old).told ≡ None → (D.state dev.new).told ≡ None }

@@ -15,7 +15,7 @@ ghost use Rattle.vx_log.specs.Batches.{with_notes};
 ghost use Rattle.vx_layout.specs.Supers.{volume_of};
 ghost use Rattle.vx_model.specs.AllowedLaws.{IsQuiet};
 ghost use Rattle.vx_model.specs.Contents.{parsed_of};
-ghost use Rattle.vx_model.specs.Replays.{IsLeft};
+ghost use Rattle.vx_model.specs.Settled.{IsLeftSettled};
 ghost use Rattle.vx_dev.specs.Moments.{Told, Always};
 ghost use Rattle.vx_model.specs.Allowed.{IsAllowed};
 ghost use Rattle.vx_model.specs.Legal.{World};
@@ -444,7 +444,7 @@ impl Kernel {
     }
 
     /// Passes the barrier behind that superblock, and notes that the file system is unmounted. A crash then leaves one image, which is
-    /// clean and reads as the final tree.
+    /// clean and reads as the final tree with what is settled of its files.
     pub fn finish<D: BlockDev>(&mut self, dev: &mut D) -> Result<(), DevFault>
         requires job { self.old.job ≡ LeaveOut }
         requires fit { IsFit (D.state dev.old) self.old }
@@ -452,7 +452,7 @@ impl Kernel {
         ensures fit { IsFit (D.state dev.new) self.new }
         ensures run { (o : World) → HasRun o (D.state dev.old) self.old → IsOver o self.old → HasRun o (D.state dev.new) self.new }
         ensures live { (o : World) → HasRun o (D.state dev.old) self.old → IsOver o self.old → Told (D.state dev.old) (IsLive o self.old) → Told (D.state dev.new) (IsLive o self.new) }
-        ensures left { OnOk result ((o : World) → HasRun o (D.state dev.old) self.old → IsOver o self.old → Told (D.state dev.old) (IsLive o self.old) → Told (D.state dev.new) (IsLeft (present o self.old).layout.device_sectors (present o self.old).tree)) }
+        ensures left { OnOk result ((o : World) → HasRun o (D.state dev.old) self.old → IsOver o self.old → Told (D.state dev.old) (IsLive o self.old) → Told (D.state dev.new) (IsLeftSettled (present o self.old))) }
         ensures items { OnOk result (self.new.history.items ≡ self.old.history.items ++ event.Unmounted (D.state dev.new).count ∷ []) }
         ensures job { OnOk result (self.new.job ≡ Left) }
         ensures logging { self.new.logging ≡ self.old.logging }

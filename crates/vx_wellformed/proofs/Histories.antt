@@ -19,7 +19,7 @@ use Rattle.vx_model.specs.Legal.{World, is_fault, state_after_step, with_release
 use Rattle.vx_model.specs.Layout.{volume}
 use Rattle.vx_model.specs.LaidOut.{IsLaidOut, IsPlain}
 use Rattle.vx_model.specs.NameLaws.{names_in, name_count, link_number, HasNoLoops}
-use Rattle.vx_wellformed.specs.WellFormed.{IsWellFormed, HasMode, HasModes}
+use Rattle.vx_wellformed.specs.WellFormed.{IsConsistent, IsWellFormed, HasMode, HasModes}
 use Rattle.vx_wellformed.proofs.EntryNames.{none_mean}
 
 -- ---- a new file system
@@ -91,18 +91,18 @@ module _ (steps : (s : State) (place session : ℕ) (c : Call) (done : Done) →
 
 -- ---- states that are known to be laid out
 
-laid_step : (s : State) (place session : ℕ) (c : Call) (o : Option Done) → step s place session c ≡ o → IsWellFormed s → IsLaidOut (state_after_step s o)
-    → ((done : Done) → step s place session c ≡ Some done → IsLaidOut done.state → IsWellFormed done.state) → IsWellFormed (state_after_step s o)
+laid_step : (s : State) (place session : ℕ) (c : Call) (o : Option Done) → step s place session c ≡ o → IsConsistent s → IsLaidOut (state_after_step s o)
+    → ((done : Done) → step s place session c ≡ Some done → IsLaidOut done.state → IsConsistent done.state) → IsConsistent (state_after_step s o)
 laid_step s place session c None is old laid new = old
 laid_step s place session c (Some done) is old laid new = new done is laid
 
-laid_unless : (s t : State) (b : Bool) → IsWellFormed s → (IsLaidOut t → IsWellFormed t) → IsLaidOut (cond b s t) → IsWellFormed (cond b s t)
+laid_unless : (s t : State) (b : Bool) → IsConsistent s → (IsLaidOut t → IsConsistent t) → IsLaidOut (cond b s t) → IsConsistent (cond b s t)
 laid_unless s t true old new laid = old
 laid_unless s t false old new laid = new laid
 
-module _ (steps : (s : State) (place session : ℕ) (c : Call) (done : Done) → IsWellFormed s → IsLaidOut done.state → step s place session c ≡ Some done → IsWellFormed done.state)
-    (releases : (s : State) (upto : ℕ) → IsWellFormed s → IsWellFormed (with_released s upto)) where
-  pub laid_event : (w : World) (e : Event) → IsWellFormed w.state → IsLaidOut (after w e).state → IsWellFormed (after w e).state
+module _ (steps : (s : State) (place session : ℕ) (c : Call) (done : Done) → IsConsistent s → IsLaidOut done.state → step s place session c ≡ Some done → IsConsistent done.state)
+    (releases : (s : State) (upto : ℕ) → IsConsistent s → IsConsistent (with_released s upto)) where
+  pub laid_event : (w : World) (e : Event) → IsConsistent w.state → IsLaidOut (after w e).state → IsConsistent (after w e).state
   laid_event w (event.Do at session line c reply) h laid =
       laid_unless w.state (state_after_step w.state (step w.state w.next session c)) (is_fault reply) h
       (λ there. laid_step w.state w.next session c (step w.state w.next session c) refl h there (λ done is held. steps w.state w.next session c done h held is)) laid

@@ -59,6 +59,8 @@ pub record WellFormedLaws : Type 0 where
   -- each call of names keeps a state consistent, whatever its files have
   pub consistent : (s : State) (place session : ℕ) (c : Call) (done : Done) → IsConsistent s → HasMode c → step s place session c ≡ Some done → IsConsistent done.state
   pub consistent_released : (s : State) (upto : ℕ) → IsConsistent s → IsConsistent (with_released s upto)
+  -- and so does an event that leaves a state known to be laid out, whatever mode it sets
+  pub consistent_event : (w : World) (e : Event) → IsConsistent w.state → IsLaidOut (after w e).state → IsConsistent (after w e).state
   -- a new file system is well-formed
   pub fresh : (v : Super) (limit device_sectors : ℕ) → IsSuper v → limit ≤ 64 → sectors_of (volume_of v) ≤ device_sectors → IsWellFormed (fresh_of v limit device_sectors)
   -- each call keeps it so, whatever it answers
@@ -66,5 +68,3 @@ pub record WellFormedLaws : Type 0 where
   pub released : (s : State) (upto : ℕ) → IsWellFormed s → IsWellFormed (with_released s upto)
   -- and so does a history
   pub history : (w : World) (events : List Event) → IsWellFormed w.state → AllByRecursion HasModes events → IsWellFormed (after_all w events).state
-  -- and an event that leaves a state known to be laid out, whatever mode it sets
-  pub event : (w : World) (e : Event) → IsWellFormed w.state → IsLaidOut (after w e).state → IsWellFormed (after w e).state

@@ -14,7 +14,7 @@ returns-clause-run g c =
     let v = c.args.sizes in
     let size = (g.D.BlockDev.state c.args.dev.now).size in
     let d = g.D.BlockDev.state c.make.new.dev in
-    let fits = c.well_formed_laws.ensures.fresh v directory_blocks size c.requires.is (lit≤ tt) c.requires.size in
+    let fits = (c.state_sound.ensures.consistent (new v size) (c.well_formed_laws.ensures.fresh v directory_blocks size c.requires.is (lit≤ tt) c.requires.size)).0 in
     subst (λ (n : ℕ). HasRun (opening n (new v size)) d c.begin.result) c.ops-first.ensures.number
     (c.begin.ensures.run (new v size) d (mounted v size fits) (λ b. refl) (omega (arith, c.ops-first.ensures.number)))
 
@@ -23,7 +23,7 @@ returns-clause-live g c =
     let v = c.args.sizes in
     let size = (g.D.BlockDev.state c.args.dev.now).size in
     let d = g.D.BlockDev.state c.make.new.dev in
-    let fits = c.well_formed_laws.ensures.fresh v directory_blocks size c.requires.is (lit≤ tt) c.requires.size in
+    let fits = (c.state_sound.ensures.consistent (new v size) (c.well_formed_laws.ensures.fresh v directory_blocks size c.requires.is (lit≤ tt) c.requires.size)).0 in
     let begun = told_begun v size (λ image is. c.fresh_reads.ensures.stands v directory_blocks size image c.requires.is is)
     (λ image stands q there. c.metadata.ensures.holds (volume_of v) (parsed_of (new v size)) image stands q there) d c.in_ok-make.ensures.new in
     subst (λ (n : ℕ). Told d (IsLive (opening n (new v size)) c.begin.result)) c.ops-first.ensures.number

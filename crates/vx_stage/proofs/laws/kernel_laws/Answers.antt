@@ -1,7 +1,5 @@
 use Rattle.std.proofs.Common.{◌*◌}
 use Rattle.vx_layout.specs.Supers.{volume_of}
-use Rattle.vx_sound.specs.Said.{block_bytes}
-use Rattle.vx_model.specs.Layout.{volume}
 use Rattle.vx_stage.proofs.laws.kernel_laws.Goals as goal
 
 pub returns : goal.returns
@@ -11,8 +9,10 @@ returns c = record {
   says_stands = λ v p r image says reads. c.log_says.ensures.stands (2 * v.log_blocks) (volume_of v) p r image says reads;
   parts = λ v p b i data_ lt. c.sector_contents.ensures.parts (volume_of v) p b i (c.super_places.ensures.volume v) data_ lt;
   formed = c.waiting_laws.ensures.formed;
-  reads = λ s image is plain stands. c.state_reads.ensures.reads s image s.tree is stands (c.state_reads.ensures.plain s (block_bytes (volume s.layout) image) is plain);
-  sound = λ s image is stands. c.sound_laws.ensures.weaker (volume s.layout) image (c.state_sound.ensures.state s image is stands);
+  reads = c.state_reads.ensures.reads;
+  tree = c.state_reads.ensures.tree;
+  shape_is = c.state_reads.ensures.shape;
+  sound = c.state_sound.ensures.sound;
   released = λ s upto. c.edit_laws.ensures.released_says s upto;
   records = c.batch_laws.ensures.records;
   decides = c.batch_laws.ensures.decides;

@@ -41,17 +41,18 @@ returns c =
       links = c.link_numbers.ensures.released s upto w.links;
       no_loops = w.no_loops;
     } in
+    let consistent_releases : (s : State) (upto : ℕ) → IsConsistent s → IsConsistent (with_released s upto) = λ s upto w. record {
+      laid_out = c.edit_laws.ensures.released s upto w.laid_out;
+      names = w.names;
+      links = c.link_numbers.ensures.released s upto w.links;
+      no_loops = w.no_loops;
+    } in
     record {
       fresh = λ v limit device_sectors is few room. fresh_well_formed v limit device_sectors is (c.fresh_reads.ensures.laid_out v limit device_sectors is few room) (c.fresh_reads.ensures.plain v limit device_sectors) (c.loops.ensures.history 0 0 0 0 []);
       step = steps;
       released = releases;
       history = kept_all steps releases;
       consistent = λ s place session call done w mode is. consistent s place session call done w ((left s place session call done w is).laid_out mode) is;
-      consistent_released = λ s upto w. record {
-        laid_out = c.edit_laws.ensures.released s upto w.laid_out;
-        names = w.names;
-        links = c.link_numbers.ensures.released s upto w.links;
-        no_loops = w.no_loops;
-      };
-      event = laid_event laid releases;
+      consistent_released = consistent_releases;
+      consistent_event = laid_event consistent consistent_releases;
     }
