@@ -149,7 +149,7 @@ module _ (o : World) (d e : Device) (m : Mount) (at : IsAt o d m) (k : Kernel) (
 pub starts_whole : (homes : List AfterImage) (j : Job) → (j ≡ Idle) ⊎ ((j ≡ Body) ⊎ ((j ≡ homes_from homes) ⊎ (j ≡ Leave))) → IsWhole j
 starts_whole homes j (inl idle) = subst IsWhole (sym idle) ((λ e. cc), (λ e. cc))
 starts_whole homes j (inr (inl body)) = subst IsWhole (sym body) ((λ e. cc), (λ e. cc))
-starts_whole homes j (inr (inr (inl from))) = subst IsWhole (sym from) (if_job IsWhole (0 == length homes) HomesOut (Homes 0) ((λ e. cc), (λ e. cc)) ((λ e. cc), (λ e. cc)))
+starts_whole homes j (inr (inr (inl from))) = subst IsWhole (sym from) (if_job IsWhole (0 == length homes) Tail (Homes 0) ((λ e. cc), (λ e. cc)) ((λ e. cc), (λ e. cc)))
 starts_whole homes j (inr (inr (inr leave))) = subst IsWhole (sym leave) ((λ e. cc), (λ e. cc))
 
 -- where a wish is answered so

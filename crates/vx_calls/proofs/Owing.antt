@@ -424,7 +424,7 @@ batch_begins k ready idle some = record {
 
 empty_owed_at : (k : Kernel) (w : ℕ) → is_level k.log ≡ false → stage_owed k (homes_from k.homes) w ≤ stage_owed k Idle w
 unfolding owed_by
-empty_owed_at k w level = by_cond (λ j. owed_by k.log (length k.homes) (length k.gathered) j w ≤ stage_owed k Idle w) (0 == length k.homes) HomesOut (Homes 0)
+empty_owed_at k w level = by_cond (λ j. owed_by k.log (length k.homes) (length k.gathered) j w ≤ stage_owed k Idle w) (0 == length k.homes) Tail (Homes 0)
     (λ none. omega (arith, log_not_level k.log (length k.homes) level)) (λ some. omega (arith, log_not_level k.log (length k.homes) level))
 
 empty_debt_at : (k : Kernel) (due : Bool) (w : ℕ) → stage_debt k (homes_from k.homes) due w ≤ stage_debt k Idle due w
@@ -440,7 +440,7 @@ empty_begins k idle level = record {
 }
 
 not_body : (homes : List AfterImage) → homes_from homes ≢ Body
-not_body homes = by_cond (λ j. j ≢ Body) (0 == length homes) HomesOut (Homes 0) (λ none e. cc) (λ some e. cc)
+not_body homes = by_cond (λ j. j ≢ Body) (0 == length homes) Tail (Homes 0) (λ none e. cc) (λ some e. cc)
 
 second_of : (a b : Bool) → (a && b) ≡ true → b ≡ true
 second_of true b is = is
@@ -531,7 +531,7 @@ busy_committed k Broken fits busy = absurd busy
 pub clean_job : (homes : List AfterImage) (j : Job) → (j ≡ Body) ⊎ ((j ≡ homes_from homes) ⊎ (j ≡ Leave)) → (j ≢ Idle) × (j ≢ LeaveOut)
 clean_job homes j (inl body) = subst (λ (x : Job). (x ≢ Idle) × (x ≢ LeaveOut)) (sym body) ((λ e. cc), (λ e. cc))
 clean_job homes j (inr (inl from)) = subst (λ (x : Job). (x ≢ Idle) × (x ≢ LeaveOut)) (sym from)
-    (by_cond (λ x. (x ≢ Idle) × (x ≢ LeaveOut)) (0 == length homes) HomesOut (Homes 0) (λ none. ((λ e. cc), (λ e. cc))) (λ some. ((λ e. cc), (λ e. cc))))
+    (by_cond (λ x. (x ≢ Idle) × (x ≢ LeaveOut)) (0 == length homes) Tail (Homes 0) (λ none. ((λ e. cc), (λ e. cc))) (λ some. ((λ e. cc), (λ e. cc))))
 clean_job homes j (inr (inr leave)) = subst (λ (x : Job). (x ≢ Idle) × (x ≢ LeaveOut)) (sym leave) ((λ e. cc), (λ e. cc))
 
 -- where a wish is answered so

@@ -1,16 +1,17 @@
 -- What is kept says of each moment: every image is allowed. And the log begins to be emptied.
-use Rattle.std.proofs.Common.{◌≡◌, ℕ, ◌≤◌, List, [], length, ap, Option, Some, None, subst, arith}
+use Rattle.std.proofs.Common.{◌≡◌, ℕ, ◌≤◌, List, [], length, ap, Option, Some, None, subst, arith, inl}
 use Rattle.std.specs.Prelude.{IfSome}
 use Rattle.vx_dev.specs.Tape.{Tape, State as Device, IsImage, IsInStep}
 use Rattle.vx_layout.specs.LogForms.{AfterImage, LogState}
 use Rattle.vx_layout.specs.Supers.{IsSuper}
+use Rattle.vx_log.specs.Batches.{noted_at}
 use Rattle.vx_log.specs.Crashes.{Stands}
 use Rattle.vx_dev.specs.Moments.{Told, Always}
 use Rattle.vx_dev.proofs.Claims.{told_weaker}
 use Rattle.vx_dev.proofs.Claims.{always}
 use Rattle.vx_model.specs.Legal.{World}
 use Rattle.vx_stage.specs.Leads.{state_at}
-use Rattle.vx_stage.specs.Kernels.{log_size, IsLevel, HasRun, IsLogOf, Now, IsLive}
+use Rattle.vx_stage.specs.Kernels.{log_size, IsLevel, IsNoted, HasRun, IsLogOf, Now, IsLive}
 use Rattle.vx_stage.specs.KernelLaws.{KernelLaws}
 use Rattle.vx_stage.specs.declared.kernel.Job.{Job}
 use Rattle.vx_stage.specs.declared.kernel.Job.TheVariants.{Idle, Body, BodyOut, Head, HeadOut, Homes, HomesOut, Tail, TailOut, Leave, LeaveOut, Left, Broken}
@@ -62,9 +63,13 @@ homes_begun o k d job_is told = told_weaker d (IsLive o k) (IsLive o (record k {
     let now_ : Now k Idle o r t = subst (λ (j : Job). Now k j o r t) job_is live.now in
     record { past = live.past; reading = r; now = (other_job o k (Homes 0) k.committed r now_.0, record { stands = now_.1; home = λ j e lt. absurd (omega (arith, lt)) }) }) told
 
--- ... and where nothing is noted, all is written
-pub homes_none : (o : World) (k : Kernel) (d : Device) → k.job ≡ Idle → k.homes ≡ [] → Told d (IsLive o k) → Told d (IsLive o (record k { job = HomesOut }))
-homes_none o k d job_is none told = told_weaker d (IsLive o k) (IsLive o (record k { job = HomesOut })) (λ t live.
+-- ... and where nothing is noted, all is home
+pub homes_none : KernelLaws → (o : World) (k : Kernel) (d : Device) → k.job ≡ Idle → k.homes ≡ [] → Told d (IsLive o k) → Told d (IsLive o (record k { job = Tail }))
+homes_none laws o k d job_is none told = told_weaker d (IsLive o k) (IsLive o (record k { job = Tail })) (λ t live.
     let r : LogState = live.reading in
     let now_ : Now k Idle o r t = subst (λ (j : Job). Now k j o r t) job_is live.now in
-    record { past = live.past; reading = r; now = (other_job o k HomesOut k.committed r now_.0, record { stands = now_.1; home = λ j e lt. absurd (omega (arith, lt, ap (λ (hs : List AfterImage). length hs) none)) }) }) told
+    record {
+      past = live.past;
+      reading = r;
+      now = (other_job o k Tail k.committed r now_.0, now_.1, laws.home (log_size k.sizes) r t now_.1.holds (λ s there. inl (subst (λ (hs : List AfterImage). IsNoted r s (noted_at hs s)) none (now_.0.noted s))));
+    }) told

@@ -16,9 +16,9 @@ closing_batch (Some c) = c.batch
 abbrev pub homes_to : ℕ → ℕ → Job
 homes_to put count = if put == count then HomesOut else Homes put
 
--- what comes first where the log is emptied
+-- what comes first where the log is emptied: the tail can move at once where nothing is noted
 abbrev pub homes_from : List AfterImage → Job
-homes_from homes = homes_to 0 (length homes)
+homes_from homes = if 0 == length homes then Tail else Homes 0
 
 -- a stage of this job does an operation on the device
 abbrev pub has_stage : Job → Bool

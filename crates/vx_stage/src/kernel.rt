@@ -101,7 +101,7 @@ impl Kernel {
         kernel_laws();
     }
 
-    /// Begins to write home all that is noted, so that the log can be emptied.
+    /// Begins to write home all that is noted, so that the log can be emptied. Where nothing is noted, the log's tail can move at once.
     pub fn empty(&mut self)
         requires job { self.old.job ≡ Idle }
         requires fit { IsFitAlone self.old }
@@ -111,8 +111,10 @@ impl Kernel {
         ensures live { (o : World) (d : Device) → HasRun o d self.old → Told d (IsLive o self.old) → Told d (IsLive o self.new) }
         ensures same { self.new ≡ record self.old { job = homes_from self.old.homes } }
     {
+        // The proof rests on these laws; nothing runs here.
+        kernel_laws();
         self.job = if self.homes.len() == 0 {
-            Job::HomesOut
+            Job::Tail
         } else {
             Job::Homes { put: 0 }
         };
