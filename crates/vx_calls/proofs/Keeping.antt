@@ -5,7 +5,9 @@ use Rattle.vx_base.specs.declared.event.Event.{Event}
 use Rattle.vx_dev.specs.Tape.{State as Device}
 use Rattle.vx_dev.specs.Moments.{Told}
 use Rattle.vx_log.specs.Logs.{after_stage, is_body_out}
-use Rattle.vx_model.specs.Legal.{World, in_use, unmounted, after, after_all}
+use Rattle.vx_model.specs.LaidOut.{IsPlain}
+use Rattle.vx_model.specs.Legal.{World, in_use, unmounted, after, after_all, with_released}
+use Rattle.vx_model.specs.State.{State}
 use Rattle.vx_stage.specs.Growths.{IsBusy, IsInUse}
 use Rattle.vx_stage.specs.Kernels.{IsFit, HasRun, IsLive, present}
 use Rattle.vx_layout.specs.LogForms.{AfterImage}
@@ -98,6 +100,7 @@ module _ (o : World) (a b : Device) (m : Mount) (at : IsAt o a m) where
     live = live;
     fit = fit;
     meta = subst (λ (es : List Event). IsStateOf m.meta (after_all o es).state) (sym (ap (λ (v : _). v.items) same)) at.meta;
+    plain = subst (λ (es : List Event). IsPlain (after_all o es).state) (sym (ap (λ (v : _). v.items) same)) at.plain;
     touched = at.touched;
     transaction = at.transaction;
     enabled = enabled;
@@ -129,12 +132,13 @@ module _ (o : World) (d e : Device) (m : Mount) (at : IsAt o d m) (k : Kernel) (
   present_is = ap (λ (es : List Event). (after_all o es).state) items ∙ ap (λ (w : World). w.state) (after_push o m.kernel.history.items x)
 
   pub pushed_at : (meta : Meta) → (m.disabled ≡ None → k.job ≢ Broken) → (IsSome m.disabled → k.job ≡ Broken) → (k.job ≡ Left → (after (after_all o m.kernel.history.items) x).phase ≡ unmounted)
-      → IsStateOf meta (after (after_all o m.kernel.history.items) x).state → IsAt o e (record m { kernel = k; meta = meta })
-  pushed_at meta enabled broken left is = record {
+      → IsStateOf meta (after (after_all o m.kernel.history.items) x).state → IsPlain (after (after_all o m.kernel.history.items) x).state → IsAt o e (record m { kernel = k; meta = meta })
+  pushed_at meta enabled broken left is plain = record {
     run = run;
     live = live;
     fit = fit;
     meta = subst (IsStateOf meta) (sym present_is) is;
+    plain = subst IsPlain (sym present_is) plain;
     touched = at.touched;
     transaction = at.transaction;
     enabled = enabled;
@@ -142,8 +146,13 @@ module _ (o : World) (d e : Device) (m : Mount) (at : IsAt o d m) (k : Kernel) (
     left = λ here. subst (λ (w : World). w.phase ≡ unmounted) (sym (ap (after_all o) items ∙ after_push o m.kernel.history.items x)) (left here);
   }
 
-  pub same_job : k.job ≡ m.kernel.job → (after_all o m.kernel.history.items).phase ≢ unmounted → (meta : Meta) → IsStateOf meta (after (after_all o m.kernel.history.items) x).state → IsAt o e (record m { kernel = k; meta = meta })
-  same_job job still meta is = pushed_at meta (λ none broken. at.enabled none (sym job ∙ broken)) (λ some. job ∙ at.broken some) (λ left. absurd (still (at.left (sym job ∙ left)))) is
+  pub same_job : k.job ≡ m.kernel.job → (after_all o m.kernel.history.items).phase ≢ unmounted → (meta : Meta) → IsStateOf meta (after (after_all o m.kernel.history.items) x).state → IsPlain (after (after_all o m.kernel.history.items) x).state
+      → IsAt o e (record m { kernel = k; meta = meta })
+  same_job job still meta is plain = pushed_at meta (λ none broken. at.enabled none (sym job ∙ broken)) (λ some. job ∙ at.broken some) (λ left. absurd (still (at.left (sym job ∙ left)))) is plain
+
+-- no file gets bytes by a release
+pub released_plain : (s : State) (upto : ℕ) → IsPlain s → IsPlain (with_released s upto)
+released_plain s upto p = record { files = λ n f there. (let both = p.files n f there in (both.0, record { none = both.1.none; space = both.1.space })); rest = p.rest }
 
 -- what begins is whole
 pub starts_whole : (homes : List AfterImage) (j : Job) → (j ≡ Idle) ⊎ ((j ≡ Body) ⊎ ((j ≡ homes_from homes) ⊎ (j ≡ Leave))) → IsWhole j

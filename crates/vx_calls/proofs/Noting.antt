@@ -15,7 +15,7 @@ use Rattle.vx_model.specs.Contents.{parsed_of}
 use Rattle.vx_model.specs.EditLaws.{EditLaws}
 use Rattle.vx_model.specs.Images.{content_at, IsBatch}
 use Rattle.vx_model.specs.Layout.{volume}
-use Rattle.vx_model.specs.LaidOut.{IsLaidOut}
+use Rattle.vx_model.specs.LaidOut.{IsLaidOut, IsPlain}
 use Rattle.vx_model.specs.Legal.{World, IfThere, after_all, is_fault}
 use Rattle.vx_model.specs.State.{State}
 use Rattle.vx_model.specs.Step.{step}
@@ -59,7 +59,7 @@ module _ (o : World) (d : Device) (m : Mount) (c : Call) (reply : Reply) (r : Ha
         → IsBatch (volume_of m.kernel.sizes) (parsed_of (present o m.kernel)) (parsed_of (called_state o m.kernel session c reply)) batch
     is_batch edits batch right whole = subst (λ (s : State). IsBatch (volume_of m.kernel.sizes) (parsed_of (present o m.kernel)) (parsed_of s) batch) (sym (r.state_is session))
         (subst (λ (v : Volume). IsBatch v (parsed_of (present o m.kernel)) (parsed_of r.new) batch) volume_is
-        (edits.batch (present o m.kernel) r.new m.touched batch r.run.mounted_now.well_formed.laid_out r.laid_out r.touched right whole))
+        (edits.batch (present o m.kernel) r.new m.touched batch r.run.mounted_now.consistent.laid_out r.laid_out r.touched right whole))
       where
         volume_is : volume r.new.layout ≡ volume_of m.kernel.sizes
         volume_is = r.touched.same_volume ∙ (λ i. record { block = 1024; first = 2 + r.run.mounted_now.log_blocks i; units = r.run.mounted_now.units i })
@@ -92,6 +92,7 @@ module _ (o : World) (d : Device) (m : Mount) (c : Call) (reply : Reply) (r : Ha
             (on_kernel (λ x. Told d (IsLive o x)) r.live);
         fit = fit;
         meta = subst (IsStateOf m2.meta) (sym (present_is ∙ r.state_is session)) (subst (λ (x : Mount). IsStateOf x.meta r.new) (sym same) r.meta);
+        plain = subst IsPlain (sym (present_is ∙ r.state_is session)) r.plain;
         touched = none;
         transaction = empty;
         enabled = λ is broken. r.enabled (sym (ap (λ (x : Mount). x.disabled) same) ∙ is) (sym (ap (λ (x : Kernel). x.job) kernel_is) ∙ sym job ∙ broken);

@@ -4,6 +4,7 @@ use Rattle.vx_base.specs.declared.event.Event.{Event}
 use Rattle.vx_base.specs.declared.event.Event.TheVariants as event
 use Rattle.vx_dev.specs.Tape as dev
 use Rattle.vx_dev.specs.Moments.{Told}
+use Rattle.vx_model.specs.LaidOut.{IsPlain}
 use Rattle.vx_model.specs.Legal.{World, unmounted, after_all, is_idle}
 use Rattle.vx_model.specs.Touching.{untouched}
 use Rattle.vx_stage.specs.Growths.{IsInUse}
@@ -20,6 +21,7 @@ pub record IsAt (o : World) (d : dev.State) (m : Mount) : Type 0 where
   pub live : Told d (IsLive o m.kernel)
   pub fit : IsFit d m.kernel
   pub meta : IsStateOf m.meta (present o m.kernel)
+  pub plain : IsPlain (present o m.kernel)
   pub touched : m.touched ≡ untouched
   pub transaction : m.transaction ≡ []
   -- the mount is disabled exactly where a write or barrier failed

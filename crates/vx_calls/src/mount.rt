@@ -6,6 +6,7 @@ ghost use Rattle.vx_base.specs.Faults.{HasCause};
 ghost use Rattle.vx_base.specs.Lines.{line_after};
 ghost use Rattle.vx_model.specs.Contents.{parsed_of};
 ghost use Rattle.vx_model.specs.Images.{content_at};
+ghost use Rattle.vx_model.specs.LaidOut.{IsPlain};
 ghost use Rattle.vx_model.specs.Layout.{volume};
 ghost use Rattle.vx_model.specs.Legal.{World};
 ghost use Rattle.vx_model.specs.State.{State};
@@ -66,7 +67,7 @@ impl Mount {
         requires job { kernel.job ≡ Idle }
         requires touched { touched ≡ untouched }
         requires transaction { transaction ≡ [] }
-        ensures at { (o : World) (d : Device) → HasRun o d kernel → Told d (IsLive o kernel) → IsFit d kernel → IsStateOf meta (present o kernel) → IsAt o d result }
+        ensures at { (o : World) (d : Device) → HasRun o d kernel → Told d (IsLive o kernel) → IsFit d kernel → IsStateOf meta (present o kernel) → IsPlain (present o kernel) → IsAt o d result }
         ensures debt { (s : State) → IsStateOf meta s → ((b : ℕ) → s.layout.pending b ≡ None) → kernel.gathered ≡ [] → kernel.homes ≡ [] → IsNone kernel.log.closing → debt result ≡ 0 }
         ensures same { result ≡ record { kernel = kernel; meta = meta; touched = touched; transaction = transaction; disabled = None; due = false } }
     {

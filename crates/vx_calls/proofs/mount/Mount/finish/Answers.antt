@@ -18,7 +18,7 @@ returns-in-Ok-clause-at g c = λ o at over.
     let d = g.D.BlockDev.state c.args.dev.now in
     let e = g.D.BlockDev.state c.finish.new.dev in
     pushed_at o d e m at c.finish.new.self (event.Unmounted e.count) c.in-Ok.ensures.items (c.finish.ensures.run o at.run over) (c.finish.ensures.live o at.run over at.live) c.finish.ensures.fit
-    m.meta (λ none broken. let wrong : ◌≡◌ {A = Job} Left Broken = sym c.in-Ok.ensures.job ∙ broken in cc) (λ some. absurd (none_some c.requires.enabled some)) (λ left. refl) at.meta
+    m.meta (λ none broken. let wrong : ◌≡◌ {A = Job} Left Broken = sym c.in-Ok.ensures.job ∙ broken in cc) (λ some. absurd (none_some c.requires.enabled some)) (λ left. refl) at.meta at.plain
 
 pub returns-in-Ok-clause-owed : goal.returns-in-Ok-clause-owed
 returns-in-Ok-clause-owed g c = left_owed c.finish.new.self (waits c.args.self.now.meta) c.in-Ok.ensures.job

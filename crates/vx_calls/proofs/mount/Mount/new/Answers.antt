@@ -10,11 +10,12 @@ none_some : IsSome {T = ℕ} None → ⊥
 none_some some = cc
 
 pub returns-clause-at : goal.returns-clause-at
-returns-clause-at c = λ o d run live fit meta. record {
+returns-clause-at c = λ o d run live fit meta plain. record {
   run = run;
   live = live;
   fit = fit;
   meta = meta;
+  plain = plain;
   touched = c.requires.touched;
   transaction = c.requires.transaction;
   enabled = λ none broken. let wrong : ◌≡◌ {A = Job} Idle Broken = sym c.requires.job ∙ broken in cc;

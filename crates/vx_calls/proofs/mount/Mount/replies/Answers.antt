@@ -15,7 +15,7 @@ use Rattle.vx_calls.proofs.mount.Mount.replies.Goals.{else-is_no_space-via-then-
 use Rattle.vx_calls.proofs.mount.Mount.replies.Goals as goal
 
 pub apply-requires-clause-sound : goal.apply-requires-clause-sound
-apply-requires-clause-sound g c = let at = c.requires.used.at in record { state = present c.requires.used.opening c.args.self.now.kernel; stands = record { laid_out = at.run.mounted_now.well_formed.laid_out; plain = at.run.mounted_now.well_formed.plain; is = at.meta } }
+apply-requires-clause-sound g c = let at = c.requires.used.at in record { state = present c.requires.used.opening c.args.self.now.kernel; stands = record { laid_out = at.run.mounted_now.consistent.laid_out; plain = at.plain; is = at.meta } }
 
 pub make_space-requires-clause-used : goal.make_space-requires-clause-used
 make_space-requires-clause-used g c =
@@ -25,7 +25,7 @@ make_space-requires-clause-used g c =
     let at = c.requires.used.at in
     let s = present o m.kernel in
     let ran = ran_of o d m at c.args.call.now c.in-Ok.reply c.apply.new.self c.apply.new.touched (step s (length m.kernel.history.items) 0 c.args.call.now) refl
-    (subst (λ (n : ℕ). IfThere (step s n 0 c.args.call.now) (λ (done : Done). IsDone s done c.apply.new.self c.apply.new.touched c.in-Ok.reply)) (c.len-place.ensures ∙ m.kernel.history.ok.0) (c.in-Ok.ensures.done s 0 at.run.mounted_now.well_formed.laid_out at.run.mounted_now.well_formed.plain at.meta)) in
+    (subst (λ (n : ℕ). IfThere (step s n 0 c.args.call.now) (λ (done : Done). IsDone s done c.apply.new.self c.apply.new.touched c.in-Ok.reply)) (c.len-place.ensures ∙ m.kernel.history.ok.0) (c.in-Ok.ensures.done s 0 at.run.mounted_now.consistent.laid_out at.plain at.meta)) in
     let short = short_of c.in-Ok.reply (sym c.is_no_space.ensures ∙ c.if-is_no_space.true) in
     record { opening = o; at = refused_at o d m at c.args.call.now c.in-Ok.reply c.apply.new.self c.apply.new.touched ran c.refused_leaves.ensures short.0 short.1 c.in-Ok.ensures.fits; in_use = c.requires.used.in_use }
 
@@ -35,7 +35,7 @@ returns-then-has_pending-clause-at g c = λ o at used.
     let d = g.D.BlockDev.state c.args.dev.now in
     let s = present o m.kernel in
     let ran = ran_of o d m at c.args.call.now c.in-Ok.reply c.apply.new.self c.apply.new.touched (step s (length m.kernel.history.items) 0 c.args.call.now) refl
-    (subst (λ (n : ℕ). IfThere (step s n 0 c.args.call.now) (λ (done : Done). IsDone s done c.apply.new.self c.apply.new.touched c.in-Ok.reply)) (c.len-place.ensures ∙ m.kernel.history.ok.0) (c.in-Ok.ensures.done s 0 at.run.mounted_now.well_formed.laid_out at.run.mounted_now.well_formed.plain at.meta)) in
+    (subst (λ (n : ℕ). IfThere (step s n 0 c.args.call.now) (λ (done : Done). IsDone s done c.apply.new.self c.apply.new.touched c.in-Ok.reply)) (c.len-place.ensures ∙ m.kernel.history.ok.0) (c.in-Ok.ensures.done s 0 at.run.mounted_now.consistent.laid_out at.plain at.meta)) in
     let short = short_of c.in-Ok.reply (sym c.is_no_space.ensures ∙ c.if-is_no_space.true) in
     c.make_space.ensures.at o (refused_at o d m at c.args.call.now c.in-Ok.reply c.apply.new.self c.apply.new.touched ran c.refused_leaves.ensures short.0 short.1 c.in-Ok.ensures.fits) used c.args.call.now c.requires.built
 
@@ -45,7 +45,7 @@ returns-else-is_no_space-clause-at g c = λ o at used.
     let d = g.D.BlockDev.state c.args.dev.now in
     let s = present o m.kernel in
     let ran = ran_of o d m at c.args.call.now c.in-Ok.reply c.apply.new.self c.apply.new.touched (step s (length m.kernel.history.items) 0 c.args.call.now) refl
-    (subst (λ (n : ℕ). IfThere (step s n 0 c.args.call.now) (λ (done : Done). IsDone s done c.apply.new.self c.apply.new.touched c.in-Ok.reply)) (c.len-place.ensures ∙ m.kernel.history.ok.0) (c.in-Ok.ensures.done s 0 at.run.mounted_now.well_formed.laid_out at.run.mounted_now.well_formed.plain at.meta)) in
+    (subst (λ (n : ℕ). IfThere (step s n 0 c.args.call.now) (λ (done : Done). IsDone s done c.apply.new.self c.apply.new.touched c.in-Ok.reply)) (c.len-place.ensures ∙ m.kernel.history.ok.0) (c.in-Ok.ensures.done s 0 at.run.mounted_now.consistent.laid_out at.plain at.meta)) in
     done_replied o d m at c.args.call.now c.in-Ok.reply c.apply.new.self c.apply.new.touched ran c.in-Ok.ensures.sound (c.apply.ensures.few, c.apply.ensures.units) c.requires.place
     (λ is. elim c.else-is_no_space.branch [
       | else-is_no_space-via-then-is_no_space+else-has_pending w ↦
@@ -70,7 +70,7 @@ make_space-requires-clause-waits g c =
     let at = c.requires.used.at in
     let s = present o m.kernel in
     let ran = ran_of o d m at c.args.call.now c.in-Ok.reply c.apply.new.self c.apply.new.touched (step s (length m.kernel.history.items) 0 c.args.call.now) refl
-    (subst (λ (n : ℕ). IfThere (step s n 0 c.args.call.now) (λ (done : Done). IsDone s done c.apply.new.self c.apply.new.touched c.in-Ok.reply)) (c.len-place.ensures ∙ m.kernel.history.ok.0) (c.in-Ok.ensures.done s 0 at.run.mounted_now.well_formed.laid_out at.run.mounted_now.well_formed.plain at.meta)) in
+    (subst (λ (n : ℕ). IfThere (step s n 0 c.args.call.now) (λ (done : Done). IsDone s done c.apply.new.self c.apply.new.touched c.in-Ok.reply)) (c.len-place.ensures ∙ m.kernel.history.ok.0) (c.in-Ok.ensures.done s 0 at.run.mounted_now.consistent.laid_out at.plain at.meta)) in
     let short = short_of c.in-Ok.reply (sym c.is_no_space.ensures ∙ c.if-is_no_space.true) in
     let is = (refused_at o d m at c.args.call.now c.in-Ok.reply c.apply.new.self c.apply.new.touched ran c.refused_leaves.ensures short.0 short.1 c.in-Ok.ensures.fits).meta in
     let some = c.has_pending.ensures.some s is c.if-has_pending.true in
@@ -84,7 +84,7 @@ returns-then-has_pending-clause-asks g c =
     let at = c.requires.used.at in
     let s = present o m.kernel in
     let ran = ran_of o d m at c.args.call.now c.in-Ok.reply c.apply.new.self c.apply.new.touched (step s (length m.kernel.history.items) 0 c.args.call.now) refl
-    (subst (λ (n : ℕ). IfThere (step s n 0 c.args.call.now) (λ (done : Done). IsDone s done c.apply.new.self c.apply.new.touched c.in-Ok.reply)) (c.len-place.ensures ∙ m.kernel.history.ok.0) (c.in-Ok.ensures.done s 0 at.run.mounted_now.well_formed.laid_out at.run.mounted_now.well_formed.plain at.meta)) in
+    (subst (λ (n : ℕ). IfThere (step s n 0 c.args.call.now) (λ (done : Done). IsDone s done c.apply.new.self c.apply.new.touched c.in-Ok.reply)) (c.len-place.ensures ∙ m.kernel.history.ok.0) (c.in-Ok.ensures.done s 0 at.run.mounted_now.consistent.laid_out at.plain at.meta)) in
     let short = short_of c.in-Ok.reply (sym c.is_no_space.ensures ∙ c.if-is_no_space.true) in
     let is = (refused_at o d m at c.args.call.now c.in-Ok.reply c.apply.new.self c.apply.new.touched ran c.refused_leaves.ensures short.0 short.1 c.in-Ok.ensures.fits).meta in
     let e = g.D.BlockDev.state c.make_space.new.dev in

@@ -10,4 +10,4 @@ returns-clause-at g c = λ o at may.
     let m = c.args.self.now in
     let d = g.D.BlockDev.state c.args.dev.now in
     same_job o d d m at c.stopped.new.self (event.Stopped d.count) c.stopped.ensures.items (c.stopped.ensures.run o at.run may) (c.stopped.ensures.live o at.run may at.live) c.stopped.ensures.fit
-    (ap (λ (x : Kernel). x.job) c.stopped.ensures.same) (λ left. let wrong : stopping ≡ unmounted = sym may ∙ left in cc) m.meta at.meta
+    (ap (λ (x : Kernel). x.job) c.stopped.ensures.same) (λ left. let wrong : stopping ≡ unmounted = sym may ∙ left in cc) m.meta at.meta at.plain
