@@ -13,7 +13,9 @@ use Rattle.vx_dev.specs.Tape as dev
 use Rattle.vx_dev.specs.Moments.{Told}
 use Rattle.vx_model.specs.AllowedLaws.{AllowedLaws}
 use Rattle.vx_model.specs.Legal.{World, Phase, in_use, stopping, stopped, unmounted, Legal, at_of, after, after_all}
+use Rattle.vx_model.specs.LaidOut.{IsLaidOut, IsPlain}
 use Rattle.vx_model.specs.Replays.{IsLeft}
+use Rattle.vx_model.specs.Settled.{IsLeftSettled}
 use Rattle.vx_mount.specs.Cores.{has_ended, is_end}
 use Rattle.vx_mount.specs.Sessions.{is_stopped}
 use Rattle.vx_mount.specs.Views.{CoreView}
@@ -23,12 +25,13 @@ use Rattle.vx_core.specs.Faults as told
 use Rattle.vx_core.specs.Mounts.{MountView}
 use Rattle.vx_core.specs.Tracks.{IsOnCourse, last_event}
 use Rattle.vx_script.specs.Puts.{AppendsPrefix}
-use Rattle.vx_stage.specs.Kernels.{IsLive, Now}
+use Rattle.vx_stage.specs.Kernels.{IsLive, Now, present}
 use Rattle.vx_stage.specs.Leads.{state_at}
 use Rattle.vx_stage.specs.declared.kernel.Job.{Job}
 use Rattle.vx_stage.specs.declared.kernel.Job.TheVariants.{Left}
 use Rattle.vx_stage.specs.declared.kernel.Kernel.{Kernel}
 use Rattle.vx_grammar.specs.declared.script.Script.{Script}
+use Rattle.vx_run.proofs.Owning.{IsOwnTree, left_own}
 use Rattle.vx_run.specs.Ends.{Taking, Takes, AreInOrder, CameBetween, IsPlayed, is_unmounted_phase, is_unmounted}
 
 pub takes_of : {E : Type 0} (t : Taking) (text : List ℕ) (r : Result (Unit {0}) E) → OnOk r (Appends t.before t.now text) → OnErr r (AppendsPrefix t.before t.now text) → HasCause t.faults_before t.faults r → Takes t text (is_ok r)
@@ -141,22 +144,22 @@ phase_unmounted stopping is = absurd (cc)
 phase_unmounted stopped is = absurd (cc)
 phase_unmounted unmounted is = refl
 
-left_now : (laws : AllowedLaws) (o : World) (k : Kernel) (t : dev.Tape) → k.job ≡ Left → k.committed ≡ length k.history.items → IsLive o k t
+left_now : (laws : AllowedLaws) (own : IsOwnTree) (o : World) (k : Kernel) (t : dev.Tape) → IsLaidOut (present o k) → IsPlain (present o k) → k.job ≡ Left → k.committed ≡ length k.history.items → IsLive o k t
     → IsLeft o.state.layout.device_sectors (after_all o k.history.items).state.tree t
-left_now laws o k t job committed live =
+left_now laws own o k t laid_out plain job committed live =
     let now : Now k Left o live.reading t = subst (λ j. Now k j o live.reading t) job live.now in
     let all : state_at o k.history.items k.committed ≡ (after_all o k.history.items).state =
     ap (state_at o k.history.items) committed ∙ ap (λ (h : List Event). (after_all o h).state) (take_all (length k.history.items) k.history.items (omega arith)) in
-    let left : IsLeft (after_all o k.history.items).state.layout.device_sectors (after_all o k.history.items).state.tree t = subst (λ x. IsLeft x.layout.device_sectors x.tree t) all now.1 in
+    let left : IsLeft (after_all o k.history.items).state.layout.device_sectors (after_all o k.history.items).state.tree t = left_own own (present o k) laid_out plain t (subst (λ x. IsLeftSettled x t) all now.1) in
     subst (λ n. IsLeft n (after_all o k.history.items).state.tree t) (laws.device o k.history.items) left
 
-pub told_left : (laws : AllowedLaws) (o : World) (k : Kernel) (d : dev.State) → k.job ≡ Left → k.committed ≡ length k.history.items → Told d (IsLive o k)
+pub told_left : (laws : AllowedLaws) (own : IsOwnTree) (o : World) (k : Kernel) (d : dev.State) → IsLaidOut (present o k) → IsPlain (present o k) → k.job ≡ Left → k.committed ≡ length k.history.items → Told d (IsLive o k)
     → Told d (IsLeft o.state.layout.device_sectors (after_all o k.history.items).state.tree)
-told_left laws o k d job committed live = for d.told live
+told_left laws own o k d laid_out plain job committed live = for d.told live
   where
     for : (t : Option dev.Tape) → IfSome t (IsLive o k) → IfSome t (IsLeft o.state.layout.device_sectors (after_all o k.history.items).state.tree)
     for None is = tt
-    for (Some t) is = left_now laws o k t job committed is
+    for (Some t) is = left_now laws own o k t laid_out plain job committed is
 
 -- ---- where it began
 

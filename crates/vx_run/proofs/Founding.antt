@@ -3,6 +3,7 @@ use Rattle.std.proofs.Common.{◌≡◌, ℕ, ◌+◌, ◌<◌, ◌≤◌, ◌^�
 use Rattle.std.specs.Prelude.{vec_capacity}
 use Rattle.vx_base.specs.declared.event.Event.{Event}
 use Rattle.vx_dev.specs.Tape as dev
+use Rattle.vx_model.specs.LaidOut.{IsPlain}
 use Rattle.vx_model.specs.Legal.{World, in_use, unmounted, after_all}
 use Rattle.vx_stage.specs.Kernels.{present}
 use Rattle.vx_stage.specs.declared.kernel.Kernel.{Kernel}
@@ -16,6 +17,9 @@ use Rattle.vx_run.specs.Mounted.{IsLeftWhole, Keeps}
 -- what the memory stands for before the first call
 pub meta_new : (o : World) (k : Kernel) (m : Meta) → k.history.items ≡ [] → IsStateOf m o.state → IsStateOf m (present o k)
 meta_new o k m empty is = subst (λ (h : List Event). IsStateOf m (after_all o h).state) (sym empty) is
+
+pub plain_new : (o : World) (k : Kernel) → k.history.items ≡ [] → IsPlain o.state → IsPlain (present o k)
+plain_new o k empty is = subst (λ (h : List Event). IsPlain (after_all o h).state) (sym empty) is
 
 module _ (o : World) (room : ℕ) (d : dev.State) (k : Kernel) (m : Mount) (same : m.kernel ≡ k) (empty : k.history.items ≡ []) (owes : debt m ≡ 0) where
   pub none_promised : promised m ≡ 0

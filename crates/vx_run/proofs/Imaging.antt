@@ -46,7 +46,7 @@ module _ (d : dev.State) (l : Loaded) (is : IsLoaded d l) where
   sizes = l.front.superblock
 
   pub mounted : IsMounted sizes is.state
-  mounted = record { well_formed = is.is.well_formed; log_blocks = is.is.log_blocks; units = is.is.units }
+  mounted = let well = is.is.well_formed in record { consistent = record { laid_out = well.laid_out; names = well.names; links = well.links; no_loops = well.no_loops }; log_blocks = is.is.log_blocks; units = is.is.units }
 
   clean_is : sizes ≡ clean_super sizes
   clean_is = λ i. record { log_blocks = sizes.log_blocks; units = sizes.units; clean = is.front.clean i }
@@ -69,6 +69,7 @@ module _ (d : dev.State) (l : Loaded) (is : IsLoaded d l) where
     is_super = is.front.is_super;
     room = is.front.room;
     mounted = mounted;
+    plain = (let well = is.is.well_formed in well.plain);
     device = is.is.device;
     nothing_waits = is.is.nothing_waits;
     limit = is.is.limit;

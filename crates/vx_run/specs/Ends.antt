@@ -16,6 +16,7 @@ use Rattle.vx_layout.specs.declared.superblock.Super.{Super}
 use Rattle.vx_model.specs.Allowed.{IsAllowed}
 use Rattle.vx_model.specs.Contents.{parsed_of}
 use Rattle.vx_model.specs.Images.{Stands}
+use Rattle.vx_model.specs.LaidOut.{IsPlain}
 use Rattle.vx_model.specs.Legal.{World, Phase, Legal, opening, unmounted, at_of, after_all}
 use Rattle.vx_model.specs.Reads.{ImageReadsAs}
 use Rattle.vx_model.specs.Replays.{IsLeft, ReplaysAs}
@@ -72,11 +73,12 @@ first_of s v = s.device.count + first_operations v
 abbrev pub beginning : Setting → World
 beginning s = opening (first_of s verb.Fresh) (fresh_of new_super directory_blocks s.device.size)
 
--- A state that the image says which the device shows, where it shows one; nothing waits in it.
+-- A state without bytes that the image says which the device shows, where it shows one; nothing waits in it.
 pub record IsFoundState (d : dev.State) (sizes : Super) (state : State) : Type 0 where
   pub is_super : IsSuper sizes
   pub room : device_size sizes ≤ d.size
   pub mounted : IsMounted sizes state
+  pub plain : IsPlain state
   pub device : state.layout.device_sectors ≡ d.size
   pub nothing_waits : (b : ℕ) → state.layout.pending b ≡ None
   pub limit : state.layout.directory_limit ≡ directory_blocks

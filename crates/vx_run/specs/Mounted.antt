@@ -3,6 +3,7 @@ use Rattle.std.specs.Prelude.{◌≡◌, ◌-◌, ◌≤◌, ◌<◌, ◌^◌, �
 use Rattle.vx_base.specs.declared.call.Call.{Call}
 use Rattle.vx_dev.specs.Moments.{Told}
 use Rattle.vx_dev.specs.Tape as dev
+use Rattle.vx_model.specs.LaidOut.{IsPlain}
 use Rattle.vx_model.specs.Legal.{World, unmounted, after_all}
 use Rattle.vx_model.specs.Step.{has_step}
 use Rattle.vx_txn.specs.Calls.{HasMode}
@@ -72,6 +73,7 @@ pub record BeginsIn (o : World) (k : Kernel) (m : Meta) (d : dev.State) : Type 0
   pub live : Told d (IsLive o k)
   pub fit : IsFit d k
   pub meta : IsStateOf m o.state
+  pub plain : IsPlain o.state
   pub nothing_waits : (b : ℕ) → o.state.layout.pending b ≡ None
   pub first : k.first ≡ o.at
 

@@ -23,6 +23,7 @@ use vx_grammar::Script;
 use vx_layout::Super;
 use vx_load::{LoadRefusal, load};
 use vx_log::Log;
+use vx_model::states::{fresh_reads, state_reads};
 use vx_replay::{CheckRefusal, CleanFront};
 use vx_script::StartRefusal;
 use vx_stage::{mount_image, new_mount};
@@ -52,6 +53,8 @@ pub fn run_on_new<D: BlockDev>(
     ensures ended { (s : Setting) (faults : ℕ) → s.device ≡ D.state dev → Asks s (record { verb = verb.Fresh; logging = logging }) script → HasEnded s (D.state result.1) faults (end_of result.0) }
     ensures short { HasShortHistory result.0 }
 {
+    // The proof rests on this law; nothing runs here.
+    fresh_reads();
     let have = dev.sectors();
     if have < SECTORS {
         let why = StartRefusal::DeviceTooSmall {
@@ -89,6 +92,8 @@ pub fn run_on_image<D: BlockDev>(
     ensures ended { (s : Setting) (faults : ℕ) → s.device ≡ D.state dev → Asks s (record { verb = verb.Mount; logging = logging }) script → HasEnded s (D.state result.1) faults (end_of result.0) }
     ensures short { HasShortHistory result.0 }
 {
+    // The proof rests on this law; nothing runs here.
+    state_reads();
     let loaded = match load(alloc, &mut dev) {
         Ok(loaded) => loaded,
         Err(why) => return (Outcome::Refused(refusal_of(why)), dev),

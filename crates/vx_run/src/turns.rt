@@ -16,6 +16,7 @@ use vx_core::Core;
 use vx_dev::BlockDev;
 use vx_grammar::Script;
 use vx_model::allowed::allowed_laws;
+use vx_model::states::state_reads;
 use vx_mount::laws::lines_of_turns;
 use vx_mount::{drive, unmount};
 use vx_stage::Kernel;
@@ -52,6 +53,7 @@ pub fn play<D: BlockDev>(
 {
     // The proof rests on these laws; nothing runs here.
     allowed_laws();
+    state_reads();
     lines_of_turns();
     let mount = Mount::new(kernel, meta, memory.touched, memory.transaction);
     let mounted = Mounted { dev, mount, room };

@@ -16,6 +16,7 @@ use Rattle.vx_run.specs.Mounted.{BeginsIn}
 use Rattle.vx_run.specs.declared.words.Asked.{Asked}
 use Rattle.vx_run.specs.declared.words.Verb.TheVariants as verb
 use Rattle.vx_run.proofs.Finishing.{begun_is, played_from}
+use Rattle.vx_run.proofs.Owning.{kept_own}
 use Rattle.vx_run.proofs.Imaging.{ended_unloaded, found, left_as, mounted, rose_from, told_by}
 use Rattle.vx_run.proofs.begin.run_on_image.Goals as goal
 
@@ -73,6 +74,7 @@ play-dev-requires-clause-begins g c =
         live = live;
         fit = made.fit;
         meta = is.meta;
+        plain = (let well = is.is.well_formed in well.plain);
         nothing_waits = is.is.nothing_waits;
         first = ap (λ (x : Kernel). x.first) made.same;
       };
@@ -101,6 +103,7 @@ returns-clause-ended g c = λ s faults same asks.
       live = live;
       fit = made.fit;
       meta = is.meta;
+        plain = (let well = is.is.well_formed in well.plain);
       nothing_waits = is.is.nothing_waits;
       first = ap (λ (x : Kernel). x.first) made.same;
     } in
@@ -113,8 +116,9 @@ returns-clause-ended g c = λ s faults same asks.
     begun_is view0 (begun_view s asked units c.args.script.lines) refl refl (ap (λ (x : Kernel). x.logging) made.same) count_is
     (made.cause.fine ∙ read.writes ∙ ap (λ (x : dev.State). x.write_faults) (sym same)) refl c.in-Ok-memory_of.ensures.turns.locks in
     let size_is : is.state.layout.device_sectors ≡ s.device.size = is.is.device ∙ ap (λ (x : dev.State). x.size) (sym same) in
+    let well = is.is.well_formed in
     let kept : (t : Tape) → Shows d0 t → Told d2 (Always (length t.ops + 1) (λ m image. ReplaysAs d0.size image is.state.tree)) = λ t shown.
-    subst (λ n. Told d2 (Always (length t.ops + 1) (λ m image. ReplaysAs n image is.state.tree))) is.is.device (c.mount_image.ensures.kept is.state t (mounted d0 l is) (read.told ∙ shown.told) (left t shown)) in
+    subst (λ n. Told d2 (Always (length t.ops + 1) (λ m image. ReplaysAs n image is.state.tree))) is.is.device (kept_own c.state_reads.ensures.own is.state well.laid_out well.plain d2 (length t.ops + 1) (c.mount_image.ensures.kept is.state t (mounted d0 l is) (read.told ∙ shown.told) (left t shown))) in
     let marked : IsMarked d0 is.state d2 = record { count = count0; kept = kept } in
     record {
       asked = asked;

@@ -25,6 +25,7 @@ play-dev-requires-clause-begins g c =
         live = c.in-Ok-new_mount.ensures.live;
         fit = c.in-Ok-new_mount.ensures.fit;
         meta = c.in-Ok.ensures.meta d0.size;
+        plain = c.fresh_reads.ensures.plain new_super directory_blocks d0.size;
         nothing_waits = λ b. refl;
         first = ap (λ (x : Kernel). x.first) c.in-Ok-new_mount.ensures.same;
       };
@@ -43,6 +44,7 @@ returns-clause-ended g c = λ s faults same asks.
       live = c.in-Ok-new_mount.ensures.live;
       fit = c.in-Ok-new_mount.ensures.fit;
       meta = c.in-Ok.ensures.meta d0.size;
+        plain = c.fresh_reads.ensures.plain new_super directory_blocks d0.size;
       nothing_waits = λ b. refl;
       first = ap (λ (x : Kernel). x.first) c.in-Ok-new_mount.ensures.same;
     } in

@@ -17,7 +17,7 @@ use Rattle.vx_calls.specs.Potentials.{debt, promised}
 use Rattle.vx_run.specs.Ends.{schedule_of}
 use Rattle.vx_run.specs.Mounted.{Keeps, view_of}
 use Rattle.vx_run.proofs.Scripts.{core_script, all_lines}
-use Rattle.vx_run.proofs.Founding.{meta_new, none_promised, keeps_new}
+use Rattle.vx_run.proofs.Founding.{meta_new, plain_new, none_promised, keeps_new}
 use Rattle.vx_run.proofs.Finishing.{begun_is, none_held, later_than, came_between, ended_by, never_both, in_order, fine_if, rose_if, phase_unmounted, told_left}
 use Rattle.vx_run.proofs.turns.play.Goals as goal
 
@@ -52,7 +52,7 @@ drive-requires-clause-sound g c =
     let new = c.requires.new in
     let kernel_is : m.kernel ≡ k = ap (λ (x : Mount). x.kernel) c.new-mount.ensures.same in
     let owes : debt m ≡ 0 = c.new-mount.ensures.debt o.state b.meta b.nothing_waits new.gathered new.homes new.closing in
-    let at : IsAt o d0 m = c.new-mount.ensures.at o d0 b.run b.live b.fit (meta_new o k c.args.meta new.history b.meta) in
+    let at : IsAt o d0 m = c.new-mount.ensures.at o d0 b.run b.live b.fit (meta_new o k c.args.meta new.history b.meta) (plain_new o k new.history b.plain) in
     let small : room < 2 ^ 32 = (let all = all_lines c.args.script c.requires.form in omega (arith, all, c.requires.room)) in
     let keeps1 : Keeps o room m d0 = keeps_new o room d0 k m kernel_is new.history owes at c.requires.capacity small b.first b.begun.phase in
     let opened : Opening = record { world = o; write_faults = d0.write_faults; logging = k.logging } in
@@ -69,7 +69,7 @@ returns-clause-short g c =
     let new = c.requires.new in
     let kernel_is : m.kernel ≡ k = ap (λ (x : Mount). x.kernel) c.new-mount.ensures.same in
     let owes : debt m ≡ 0 = c.new-mount.ensures.debt o.state b.meta b.nothing_waits new.gathered new.homes new.closing in
-    let at : IsAt o d0 m = c.new-mount.ensures.at o d0 b.run b.live b.fit (meta_new o k c.args.meta new.history b.meta) in
+    let at : IsAt o d0 m = c.new-mount.ensures.at o d0 b.run b.live b.fit (meta_new o k c.args.meta new.history b.meta) (plain_new o k new.history b.plain) in
     let small : room < 2 ^ 32 = (let all = all_lines c.args.script c.requires.form in omega (arith, all, c.requires.room)) in
     let keeps1 : Keeps o room m d0 = keeps_new o room d0 k m kernel_is new.history owes at c.requires.capacity small b.first b.begun.phase in
     let opened : Opening = record { world = o; write_faults = d0.write_faults; logging = m.kernel.logging } in
@@ -88,7 +88,7 @@ returns-clause-played g c = λ o b.
     let new = c.requires.new in
     let kernel_is : m.kernel ≡ k = ap (λ (x : Mount). x.kernel) c.new-mount.ensures.same in
     let owes : debt m ≡ 0 = c.new-mount.ensures.debt o.state b.meta b.nothing_waits new.gathered new.homes new.closing in
-    let at : IsAt o d0 m = c.new-mount.ensures.at o d0 b.run b.live b.fit (meta_new o k c.args.meta new.history b.meta) in
+    let at : IsAt o d0 m = c.new-mount.ensures.at o d0 b.run b.live b.fit (meta_new o k c.args.meta new.history b.meta) (plain_new o k new.history b.plain) in
     let small : room < 2 ^ 32 = (let all = all_lines c.args.script c.requires.form in omega (arith, all, c.requires.room)) in
     let keeps1 : Keeps o room m d0 = keeps_new o room d0 k m kernel_is new.history owes at c.requires.capacity small b.first b.begun.phase in
     let opened : Opening = record { world = o; write_faults = d0.write_faults; logging = k.logging } in
@@ -131,5 +131,5 @@ returns-clause-played g c = λ o b.
       came = came_between o h d.count run.legal run.come;
       crash = subst (λ mode. Told d (Always o.at (IsAllowed mode o h))) kept.logging
           (subst (λ n. Told d (Always n (IsAllowed m2.kernel.logging o h))) keeps.first (c.facts.ensures.crash o run keeps.at.live));
-      clean = λ yes. (let left = keeps.left (phase_unmounted (after_all o h).phase yes) in told_left c.allowed_laws.ensures o m2.kernel d left.job left.committed keeps.at.live);
+      clean = λ yes. (let left = keeps.left (phase_unmounted (after_all o h).phase yes) in told_left c.allowed_laws.ensures c.state_reads.ensures.own o m2.kernel d run.mounted_now.consistent.laid_out keeps.at.plain left.job left.committed keeps.at.live);
     }
