@@ -1,5 +1,5 @@
--- Images that hold a well-formed state pass the image check.
-use Rattle.std.specs.Prelude.{ℕ, ◌≤◌, true, List, take}
+-- Images that hold a consistent state pass the image check.
+use Rattle.std.specs.Prelude.{ℕ, ◌≤◌, true, false, List, take}
 use Rattle.std.specs.List.{AllByRecursion}
 use Rattle.vx_base.specs.declared.event.Event.{Event}
 use Rattle.vx_layout.specs.Places.{sectors_of}
@@ -12,14 +12,18 @@ use Rattle.vx_model.specs.Layout.{volume}
 use Rattle.vx_model.specs.Legal.{World, opening, after_all}
 use Rattle.vx_model.specs.Images.{Stands, Says}
 use Rattle.vx_model.specs.Contents.{parsed_of, IsFormatted}
-use Rattle.vx_wellformed.specs.WellFormed.{IsWellFormed, HasModes}
+use Rattle.vx_wellformed.specs.WellFormed.{IsConsistent, AreNamed, IsWellFormed, HasModes}
 
 pub record StateSound : Type 0 where
-  -- an image that holds what a well-formed state says is sound
-  pub state : (s : State) (image : ℕ → List ℕ) → IsWellFormed s → Stands (volume s.layout) (parsed_of s) image → IsSound true (volume s.layout) image
+  -- an image that holds what a consistent state says is sound, whatever its files have
+  pub sound : (s : State) (image : ℕ → List ℕ) → IsConsistent s → Stands (volume s.layout) (parsed_of s) image → IsSound false (volume s.layout) image
+  -- it passes the strict check where each file has a name
+  pub strict : (s : State) (image : ℕ → List ℕ) → IsConsistent s → AreNamed s → Stands (volume s.layout) (parsed_of s) image → IsSound true (volume s.layout) image
   -- and so is one with a log that says it, with the log's records laid over it
-  pub log : (n : ℕ) (s : State) (r : LogState) (image : ℕ → List ℕ) → IsWellFormed s → Says (volume s.layout) (parsed_of s) r → ReadsAs n r image
-      → IsSound true (volume s.layout) (λ x. overlay_all r.records x (image x))
+  pub log_sound : (n : ℕ) (s : State) (r : LogState) (image : ℕ → List ℕ) → IsConsistent s → Says (volume s.layout) (parsed_of s) r → ReadsAs n r image
+      → IsSound false (volume s.layout) (λ x. overlay_all r.records x (image x))
+  -- a well-formed state is consistent, and its files have names
+  pub consistent : (s : State) → IsWellFormed s → IsConsistent s × AreNamed s
 
 pub record HistorySound : Type 0 where
   -- a new image is sound
