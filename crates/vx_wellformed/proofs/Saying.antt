@@ -1,5 +1,5 @@
 -- What an image that holds a state says of blocks and names.
-use Rattle.std.proofs.Common.{◌≡◌, ℕ, zero, suc, ◌+◌, ◌*◌, ◌<◌, ◌≤◌, Bool, true, false, cond, List, [], ◌∷◌, ◌++◌, length, map, take, Option, Some, None, Ok, refl, sym, ap, ap₂, subst, ◌∙◌, arith, lit≤, append-nil}
+use Rattle.std.proofs.Common.{◌≡◌, ℕ, zero, suc, ◌+◌, ◌*◌, ◌<◌, ◌≤◌, Bool, true, false, cond, List, [], ◌∷◌, ◌++◌, map, take, Option, Some, None, Ok, refl, sym, ap, ap₂, subst, ◌∙◌, arith, append-nil}
 use Rattle.std.specs.Prelude.{◌||◌, ◌==◌, is_some, Contains}
 use Rattle.std.specs.List.{flat_map, AllByRecursion}
 use Rattle.std.specs.Option.{option_map}
@@ -26,9 +26,9 @@ use Rattle.vx_model.specs.Contents.{settled_of, inode_for, parsed_of}
 use Rattle.vx_model.specs.LaidOut.{Owns, HasNothing, IsHeld, IsLaidOut, entries_of}
 use Rattle.vx_model.specs.Saying.{IsImageOf, StateSays}
 use Rattle.vx_model.specs.NameLaws.{meaning_in, lookup, names_in, name_count}
-use Rattle.vx_wellformed.specs.Names as names
 use Rattle.vx_model.proofs.Spelled.{nothing_at, no_pages, take_none}
 use Rattle.vx_model.proofs.Uses.{among_uses, is_among}
+use Rattle.vx_wellformed.specs.Names as names
 use Rattle.vx_wellformed.specs.WellFormed.{IsConsistent}
 use Rattle.vx_wellformed.proofs.Claiming.{among_both, claimable}
 use Rattle.vx_wellformed.proofs.EntryNames.{meaning, naming, naming_first, counted_alike, meaning_contained}

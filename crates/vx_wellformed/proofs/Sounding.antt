@@ -9,7 +9,6 @@ use Rattle.std.proofs.lemmas.List.{take_at, drop_at, take_all, get_or-map, lengt
 use Rattle.std.proofs.lemmas.Nat.{div-add-mod', mod_below}
 use Rattle.std.proofs.lemmas.Option.{slice_get-get_or}
 use Rattle.std.proofs.Math.Path.{fun_ext}
-use Rattle.vx_base.specs.declared.kind.FileKind.{FileKind}
 use Rattle.vx_base.specs.declared.kind.FileKind.TheVariants as kind
 use Rattle.vx_base.specs.declared.inode.Extent.{Extent}
 use Rattle.vx_base.specs.declared.inode.InodeValue.{InodeValue}
@@ -19,7 +18,7 @@ use Rattle.vx_layout.specs.Bits.{bits_bytes}
 use Rattle.vx_layout.specs.Inodes.{layout1, slot_bytes, half_of, IsInode, IsSlot}
 use Rattle.vx_layout.specs.Maps.{MapBlock}
 use Rattle.vx_extents.specs.Extents.{stretches}
-use Rattle.vx_space.specs.Space.{Space, page_blocks}
+use Rattle.vx_space.specs.Space.{page_blocks}
 use Rattle.vx_sound.specs.Said.{Image, block_bytes, inode_bytes_at, inode_said, chain_said, extents_said, blocks_said, claims_below, entries_said, entries_below, directory_blocks}
 use Rattle.vx_sound.specs.Facts.{IsInodeRight, IsMapInPlace, IsMapRight, IsWholeBlock, IsExtentRight, AreExtentsRight, AreInOrder, AreWithoutHoles, FitKind, AreClaimable, AreNamesRight, block_at, AreEntriesRight, HasTarget, AreTargetsRight, FitNames, IsRoot, AreLinksRight, IsBitmapRight}
 use Rattle.vx_sound.specs.Facts as facts
@@ -27,13 +26,14 @@ use Rattle.vx_sound.specs.Reading.{Form, Entries, Extents, Parsed, Stands, IsFor
 use Rattle.vx_sound.specs.Sound.{IsInodeSound, IsSound}
 use Rattle.vx_model.specs.Legal.{IfThere}
 use Rattle.vx_model.specs.Tree.{Node, IsFile, IsDirectory}
-use Rattle.vx_model.specs.Layout.{DirectoryBlock, Layout, Claim, Claimed, volume, blocks_at, space_at, maps_at, block_numbers, settled_at, settled_maps, chain_at, claim_of, is_on_device}
+use Rattle.vx_model.specs.Layout.{DirectoryBlock, Layout, Claim, Claimed, volume, blocks_at, block_numbers, settled_at, settled_maps, chain_at, claim_of, is_on_device}
 use Rattle.vx_model.specs.State.{State}
 use Rattle.vx_model.specs.Walks.{root}
 use Rattle.vx_model.specs.Contents.{Held, settled_of, inode_for, inode_value, parsed_of}
 use Rattle.vx_model.specs.Images.{content_at}
 use Rattle.vx_model.specs.LaidOut.{IsHeld, IsDirectoryNode, IsLaidOut, entries_of}
 use Rattle.vx_model.specs.Saying.{IsImageOf, StateSays}
+use Rattle.vx_model.proofs.Spelled.{all_first, all_second}
 use Rattle.vx_wellformed.specs.WellFormed.{IsConsistent, AreNamed}
 use Rattle.vx_wellformed.proofs.Naming.{file_names, directory_names, root_names}
 use Rattle.vx_wellformed.proofs.Reaching.{reached}
@@ -55,18 +55,6 @@ at_place P (x ∷ xs) (suc k) d all less = at_place P xs k d all.1 (omega (arith
 all_got : {X : Type 0} (P : X → Type 0) (xs : List X) → ((k : ℕ) (x : X) → slice_get xs k ≡ Some x → P x) → AllByRecursion P xs
 all_got P [] each = tt
 all_got P (x ∷ xs) each = (each 0 x refl, all_got P xs (λ k y h. each (suc k) y h))
-
-all_more : {X : Type 0} (P Q : X → Type 0) → ((x : X) → P x → Q x) → (xs : List X) → AllByRecursion P xs → AllByRecursion Q xs
-all_more P Q more [] all = tt
-all_more P Q more (x ∷ xs) all = (more x all.0, all_more P Q more xs all.1)
-
-all_first : {X : Type 0} (P : X → Type 0) (xs ys : List X) → AllByRecursion P (xs ++ ys) → AllByRecursion P xs
-all_first P [] ys all = tt
-all_first P (x ∷ xs) ys all = (all.0, all_first P xs ys all.1)
-
-all_second : {X : Type 0} (P : X → Type 0) (xs ys : List X) → AllByRecursion P (xs ++ ys) → AllByRecursion P ys
-all_second P [] ys all = all
-all_second P (x ∷ xs) ys all = all_second P xs ys all.1
 
 some_by : {X : Type 0} (P : X → Type 0) (o : Option X) → ((x : X) → o ≡ Some x → P x) → IfSome o P
 some_by P None h = tt
