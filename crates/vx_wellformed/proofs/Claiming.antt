@@ -1,5 +1,5 @@
 -- Which blocks may be claimed one after the other.
-use Rattle.std.proofs.Common.{◌≡◌, ℕ, zero, suc, ◌+◌, ◌<◌, ◌≤◌, true, false, cond, List, [], ◌∷◌, ◌++◌, length, take, get_or, refl, sym, ap, subst, ◌∙◌, arith, append-nil, append_assoc, inl, inr}
+use Rattle.std.proofs.Common.{◌≡◌, ℕ, zero, suc, ◌<◌, ◌≤◌, true, false, cond, List, [], ◌∷◌, ◌++◌, length, take, get_or, refl, sym, ap, subst, ◌∙◌, arith, append-nil, append_assoc, inl, inr}
 use Rattle.std.specs.Prelude.{◌||◌, ◌==◌}
 use Rattle.std.proofs.lemmas.Bool.{cases_Bool, eq-eqb, or_left, or_right, or_from}
 use Rattle.std.proofs.lemmas.List.Folds.{list_any-append}
@@ -7,27 +7,10 @@ use Rattle.vx_layout.specs.Places.{Volume}
 use Rattle.vx_space.specs.Uses.{uses}
 use Rattle.vx_sound.specs.Said.{among}
 use Rattle.vx_sound.specs.Facts.{IsClaimable, AreClaimable}
+use Rattle.vx_model.proofs.Uses.{one, among_uses}
 
 pub among_both : (xs ys : List ℕ) (b : ℕ) → among (xs ++ ys) b ≡ (among xs b || among ys b)
 among_both xs ys b = list_any-append (λ y. b == y) xs ys
-
--- ---- uses
-
-abbrev one : ℕ → ℕ → ℕ
-one b c = cond (b == c) 1 0
-
-pub uses_append : (xs ys : List ℕ) (b : ℕ) → uses (xs ++ ys) b ≡ uses xs b + uses ys b
-uses_append [] ys b = omega arith
-uses_append (x ∷ xs) ys b = let rest = uses_append xs ys b in omega (arith, rest)
-
-among_uses : (xs : List ℕ) (b : ℕ) → among xs b ≡ true → 1 ≤ uses xs b
-among_uses [] b h = absurd cc
-among_uses (x ∷ xs) b h = elim (cases_Bool (b == x)) [
-  | inl e ↦ let here : one b x ≡ 1 = ap (λ t. cond t 1 0) e in omega (arith, here)
-  | inr ne ↦
-      let rest = among_uses xs b (sym (ap (λ t. t || among xs b) ne) ∙ h) in
-      omega (arith, rest)
-]
 
 -- ---- claims one after the other
 

@@ -8,6 +8,7 @@ pub mod Calls
 pub mod Histories
 pub mod Forms
 pub mod Stretches
+pub mod Pages
 pub mod Claiming
 pub mod Chaining
 pub mod Saying

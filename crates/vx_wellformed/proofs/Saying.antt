@@ -1,43 +1,43 @@
 -- What an image that holds a state says of blocks and names.
-use Rattle.std.proofs.Common.{◌≡◌, ℕ, zero, suc, ◌+◌, ◌*◌, ◌<◌, ◌≤◌, Bool, true, false, cond, List, [], ◌∷◌, ◌++◌, length, map, Option, Some, None, Ok, refl, sym, ap, ap₂, subst, ◌∙◌, arith, lit≤, append-nil}
+use Rattle.std.proofs.Common.{◌≡◌, ℕ, zero, suc, ◌+◌, ◌*◌, ◌<◌, ◌≤◌, Bool, true, false, cond, List, [], ◌∷◌, ◌++◌, map, take, Option, Some, None, Ok, refl, sym, ap, ap₂, subst, ◌∙◌, arith, append-nil}
 use Rattle.std.specs.Prelude.{◌||◌, ◌==◌, is_some, Contains}
 use Rattle.std.specs.List.{flat_map, AllByRecursion}
 use Rattle.std.specs.Option.{option_map}
 use Rattle.std.specs.FinMap as map
 use Rattle.std.proofs.lemmas.Bool.{false_from_ne_true, or_from}
 use Rattle.std.proofs.lemmas.Grind.{flat_map-append}
-use Rattle.std.proofs.lemmas.List.{take_all}
 use Rattle.std.proofs.lemmas.List.Sums.{sum_by-append}
 use Rattle.vx_base.specs.Paths.{FileName}
 use Rattle.vx_base.specs.declared.inode.DirEntry.{DirEntry}
 use Rattle.vx_layout.specs.Places.{Volume}
-use Rattle.vx_layout.specs.Dirs.{IsDir}
-use Rattle.vx_space.specs.Space.{Space, no_space, page_blocks, maps_for}
+use Rattle.vx_space.specs.Space.{page_blocks, maps_for}
 use Rattle.vx_space.specs.Uses.{uses}
 use Rattle.vx_sound.specs.FirstFault.{numbers}
 use Rattle.vx_sound.specs.Said.{Image, among, inode_said, claimed_by, claims_below, names_of}
 use Rattle.vx_sound.specs.Said as said
 use Rattle.vx_sound.specs.Facts.{IsNamedBy, ReachedIn, IsReached, HasTarget, AreClaimable}
 use Rattle.vx_model.specs.Tree.{Node, Directory, IsFile, IsDirectory}
-use Rattle.vx_model.specs.Layout.{DirectoryBlock, Layout, volume, blocks_at, space_at, maps_at, block_numbers, owned, is_owned_below, pages_from, settled_at, settled_maps}
+use Rattle.vx_model.specs.Layout.{Layout, volume, blocks_at, owned, settled_at, device_blocks, is_on_device_below}
 use Rattle.vx_model.specs.State.{State}
 use Rattle.vx_model.specs.Walks.{root, walk}
 use Rattle.vx_model.specs.Images.{Stands}
 use Rattle.vx_model.specs.Reads.{entries_from}
 use Rattle.vx_model.specs.Contents.{settled_of, inode_for, parsed_of}
-use Rattle.vx_model.specs.LaidOut.{Owns, HasNothing, IsHeld, IsPlain, IsPlainHeld, IsLaidOut, entries_of}
+use Rattle.vx_model.specs.LaidOut.{Owns, HasNothing, IsHeld, IsLaidOut, entries_of}
 use Rattle.vx_model.specs.Saying.{IsImageOf, StateSays}
 use Rattle.vx_model.specs.NameLaws.{meaning_in, lookup, names_in, name_count}
+use Rattle.vx_model.proofs.Spelled.{nothing_at, no_pages, take_none}
+use Rattle.vx_model.proofs.Uses.{among_uses, is_among}
 use Rattle.vx_wellformed.specs.Names as names
-use Rattle.vx_wellformed.specs.WellFormed.{IsWellFormed}
-use Rattle.vx_wellformed.proofs.Claiming.{among_both, uses_append, claimable}
+use Rattle.vx_wellformed.specs.WellFormed.{IsConsistent}
+use Rattle.vx_wellformed.proofs.Claiming.{among_both, claimable}
 use Rattle.vx_wellformed.proofs.EntryNames.{meaning, naming, naming_first, counted_alike, meaning_contained}
 use Rattle.vx_wellformed.proofs.Naming.{named_directory, counted_among, linked, one_same}
 use Rattle.vx_wellformed.proofs.Reaching.{walk_first}
 
 -- ---- lists
 
-pub numbers_more : (a n : ℕ) → numbers a (suc n) ≡ numbers a n ++ (a + n) ∷ []
+numbers_more : (a n : ℕ) → numbers a (suc n) ≡ numbers a n ++ (a + n) ∷ []
 numbers_more a zero = let e : a + 0 ≡ a = omega arith in ap (λ (x : ℕ). x ∷ []) (sym e)
 numbers_more a (suc n) = let f : suc a + n ≡ a + suc n = omega arith in
     ap (λ (xs : List ℕ). a ∷ xs) (numbers_more (suc a) n) ∙ ap (λ (x : ℕ). a ∷ (numbers (suc a) n ++ x ∷ [])) f
@@ -59,85 +59,16 @@ some_map : {A B : Type 0} (f : A → B) (o : Option A) → is_some (option_map f
 some_map f None = refl
 some_map f (Some x) = refl
 
--- ---- the blocks of an inode of a state, whatever it is
-
-pub record HasBlocks (l : Layout) (n : ℕ) : Type 0 where
-  pub space : space_at l n ≡ no_space
-  pub maps : length (maps_at l n) ≡ maps_for (pages_from 0 (blocks_at l n))
-  pub few : length (blocks_at l n) ≤ 64
-  pub spelled : AllByRecursion (λ (b : DirectoryBlock). IsDir 1024 b.entries) (blocks_at l n)
-
-no_blocks : (ds : List DirectoryBlock) (ys : List ℕ) → block_numbers ds ++ ys ≡ [] → (ds ≡ []) × (ys ≡ [])
-no_blocks [] ys e = (refl, e)
-no_blocks (d ∷ ds) ys e = absurd cc
-
 -- where nothing stands
-nothing_at : (l : Layout) (n : ℕ) → HasNothing l n → (blocks_at l n ≡ []) × (maps_at l n ≡ [])
-nothing_at l n h =
-    let parts = no_blocks (blocks_at l n) (page_blocks (space_at l n).present ++ maps_at l n) h.none in
-    (parts.0, ap (λ (x : Space). page_blocks x.present ++ maps_at l n) (sym h.space) ∙ parts.1)
+nothing_said : (l : Layout) (n : ℕ) → HasNothing l n → device_blocks l n ≡ []
+nothing_said l n h =
+    ap₂ (λ (xs ys : List ℕ). xs ++ ys) (ap (take (maps_for (settled_at l n))) (nothing_at l n h).1 ∙ take_none (maps_for (settled_at l n))) (ap page_blocks (no_pages l n h))
 
-no_maps : maps_for (pages_from 0 []) ≡ 0
-no_maps = refl
+-- the blocks that the device says an inode has are some of those that it has
+abbrev pub Within : Type 0
+Within = (s : State) (n b : ℕ) → IsLaidOut s → uses (device_blocks s.layout n) b ≤ uses (owned s.layout n) b
 
-nothing_held : (l : Layout) (n : ℕ) → HasNothing l n → HasBlocks l n
-nothing_held l n h =
-    let none = nothing_at l n h in record {
-      space = h.space;
-      maps = ap (λ (ms : List ℕ). length ms) none.1 ∙ sym no_maps ∙ ap (λ (ds : List DirectoryBlock). maps_for (pages_from 0 ds)) (sym none.0);
-      few = subst (λ (ds : List DirectoryBlock). length ds ≤ 64) (sym none.0) (lit≤ tt);
-      spelled = subst (λ (ds : List DirectoryBlock). AllByRecursion (λ (b : DirectoryBlock). IsDir 1024 b.entries) ds) (sym none.0) tt;
-    }
-
-held_by : (l : Layout) (n : ℕ) (o : Option Node) → l.directory_limit ≤ 64 → IsPlainHeld l n o → HasBlocks l n
-held_by l n None limit h = nothing_held l n h
-held_by l n (Some (IsFile f)) limit h = nothing_held l n h.1
-held_by l n (Some (IsDirectory d)) limit h = record { space = h.space; maps = h.maps; few = (let few = h.few in omega (arith, few, limit)); spelled = h.spelled }
-
-pub page_numbers : (page : ℕ) (ds : List DirectoryBlock) → page_blocks (pages_from page ds) ≡ block_numbers ds
-page_numbers page [] = refl
-page_numbers page (d ∷ ds) = ap (λ (xs : List ℕ). d.block ∷ xs) (page_numbers (page + 1) ds)
-
--- what a laid-out state has at each inode where no file has bytes
-abbrev pub Plainly : Type 0
-Plainly = (s : State) → IsLaidOut s → IsPlain s → (n : ℕ) → IsPlainHeld s.layout n (map.get s.tree.nodes n)
-
-module _ (plainly : Plainly) (s : State) (is : IsLaidOut s) (plain : IsPlain s) where
-  pub held : (n : ℕ) → HasBlocks s.layout n
-  held n = held_by s.layout n (map.get s.tree.nodes n) is.limit (plainly s is plain n)
-
-  pub pages_are : (n : ℕ) → settled_at s.layout n ≡ pages_from 0 (blocks_at s.layout n)
-  pages_are n = ap (λ (x : Space). pages_from 0 (blocks_at s.layout n) ++ x.settled) (held n).space ∙ append-nil (pages_from 0 (blocks_at s.layout n))
-
-  pub maps_are : (n : ℕ) → settled_maps s.layout n ≡ maps_at s.layout n
-  maps_are n =
-      let count = (held n).maps in
-      let all : maps_for (settled_at s.layout n) ≡ maps_for (pages_from 0 (blocks_at s.layout n)) = ap maps_for (pages_are n) in
-      take_all (maps_for (settled_at s.layout n)) (maps_at s.layout n) (omega (arith, count, all))
-
-  -- the blocks that the device says an inode has, its map blocks first
-  abbrev pub taken : ℕ → List ℕ
-  taken n = maps_at s.layout n ++ block_numbers (blocks_at s.layout n)
-
-  owned_are : (n : ℕ) → owned s.layout n ≡ block_numbers (blocks_at s.layout n) ++ maps_at s.layout n
-  owned_are n = ap (λ (x : Space). block_numbers (blocks_at s.layout n) ++ (page_blocks x.present ++ maps_at s.layout n)) (held n).space
-
-  taken_owned : (n b : ℕ) → among (taken n) b ≡ among (owned s.layout n) b
-  taken_owned n b =
-      among_both (maps_at s.layout n) (block_numbers (blocks_at s.layout n)) b
-      ∙ or_swap (among (maps_at s.layout n) b) (among (block_numbers (blocks_at s.layout n)) b)
-      ∙ sym (among_both (block_numbers (blocks_at s.layout n)) (maps_at s.layout n) b)
-      ∙ ap (λ xs. among xs b) (sym (owned_are n))
-
-  taken_once : (n b : ℕ) → uses (taken n) b ≤ 1
-  taken_once n b =
-      let once = is.use_of_blocks.apart n b in
-      let all : uses (owned s.layout n) b ≡ uses (block_numbers (blocks_at s.layout n) ++ maps_at s.layout n) b = ap (λ xs. uses xs b) (owned_are n) in
-      let one = uses_append (block_numbers (blocks_at s.layout n)) (maps_at s.layout n) b in
-      let other = uses_append (maps_at s.layout n) (block_numbers (blocks_at s.layout n)) b in
-      omega (arith, once, all, one, other)
-
-module _ (plainly : Plainly) (says : StateSays) (s : State) (w : IsWellFormed s) (image : Image) (stands : Stands (volume s.layout) (parsed_of s) image) where
+module _ (within : Within) (says : StateSays) (s : State) (w : IsConsistent s) (image : Image) (stands : Stands (volume s.layout) (parsed_of s) image) where
   abbrev v : Volume
   v = volume s.layout
 
@@ -152,62 +83,63 @@ module _ (plainly : Plainly) (says : StateSays) (s : State) (w : IsWellFormed s)
 
   -- ---- claims
 
-  claims_by : (n : ℕ) (o : Option Node) → map.get s.tree.nodes n ≡ o → IsPlainHeld l n o → claimed_by v image (option_map (inode_for (settled_of l n)) o) ≡ taken plainly s is w.plain n
-  claims_by n None e h = let none = nothing_at l n h in ap₂ (λ (ms : List ℕ) (ds : List DirectoryBlock). ms ++ block_numbers ds) (sym none.1) (sym none.0)
+  claims_by : (n : ℕ) (o : Option Node) → map.get s.tree.nodes n ≡ o → IsHeld l n o → claimed_by v image (option_map (inode_for (settled_of l n)) o) ≡ device_blocks l n
+  claims_by n None e h = sym (nothing_said l n h)
   claims_by n (Some node) e h =
       let at = ap (option_map (inode_for (settled_of l n))) e in
-      ap₂ (λ (xs ys : List ℕ). xs ++ ys) (says.chain s image there n (inode_for (settled_of l n) node) at ∙ maps_are plainly s is w.plain n)
-      (says.blocks s image there n (inode_for (settled_of l n) node) at ∙ ap page_blocks (pages_are plainly s is w.plain n) ∙ page_numbers 0 (blocks_at l n))
+      ap₂ (λ (xs ys : List ℕ). xs ++ ys) (says.chain s image there n (inode_for (settled_of l n) node) at) (says.blocks s image there n (inode_for (settled_of l n) node) at)
 
-  claims_are : (n : ℕ) → claimed_by v image (inode_said v image n) ≡ taken plainly s is w.plain n
-  claims_are n = ap (claimed_by v image) (says.inodes s image there n) ∙ claims_by n (map.get s.tree.nodes n) refl (plainly s is w.plain n)
+  claims_are : (n : ℕ) → claimed_by v image (inode_said v image n) ≡ device_blocks l n
+  claims_are n = ap (claimed_by v image) (says.inodes s image there n) ∙ claims_by n (map.get s.tree.nodes n) refl (is.nodes n)
 
-  claims_more : (n b : ℕ) → among (claims_below v image (suc n)) b ≡ (among (claims_below v image n) b || among (owned l n) b)
+  claims_more : (n b : ℕ) → among (claims_below v image (suc n)) b ≡ (among (claims_below v image n) b || among (device_blocks l n) b)
   unfolding claims_below
   claims_more n b =
       ap (λ xs. among xs b) (listed_more (λ m. claimed_by v image (inode_said v image m)) n)
       ∙ among_both (claims_below v image n) (claimed_by v image (inode_said v image n)) b
       ∙ ap (λ xs. among (claims_below v image n) b || among xs b) (claims_are n)
-      ∙ ap (λ t. among (claims_below v image n) b || t) (taken_owned plainly s is w.plain n b)
 
   claims_none : (b : ℕ) → among (claims_below v image 0) b ≡ false
   unfolding claims_below
   claims_none b = refl
 
-  -- a block is claimed in the image where an inode has it in the state
-  pub below_alike : (b n : ℕ) → among (claims_below v image n) b ≡ is_owned_below l b n
-  unfolding is_owned_below
+  -- a block is claimed in the image where the device says in the state that an inode has it
+  pub below_alike : (b n : ℕ) → among (claims_below v image n) b ≡ is_on_device_below l b n
+  unfolding is_on_device_below
   below_alike b zero = claims_none b
   below_alike b (suc n) =
-      claims_more n b ∙ or_swap (among (claims_below v image n) b) (among (owned l n) b)
-      ∙ ap (λ t. among (owned l n) b || t) (below_alike b n)
+      claims_more n b ∙ or_swap (among (claims_below v image n) b) (among (device_blocks l n) b)
+      ∙ ap (λ t. among (device_blocks l n) b || t) (below_alike b n)
+
+  -- what the device says an inode has, the inode has
+  owns : (n b : ℕ) → among (device_blocks l n) b ≡ true → Owns l n b
+  owns n b has = let some = among_uses (device_blocks l n) b has in let fewer = within s n b is in is_among (owned l n) b (omega (arith, some, fewer))
 
   -- no inode before claims an inode's block
   new_claim : (n b : ℕ) → Owns l n b → (k : ℕ) → k ≤ n → among (claims_below v image k) b ≡ false
   new_claim n b has zero low = claims_none b
   new_claim n b has (suc k) low =
       claims_more k b
-      ∙ or_from (among (claims_below v image k) b) (among (owned l k) b) (new_claim n b has k (omega (arith, low)))
-      (false_from_ne_true (among (owned l k) b) (λ other. let e : k ≡ n = is.use_of_blocks.once k n b other has in absurd (omega (arith, e, low))))
+      ∙ or_from (among (claims_below v image k) b) (among (device_blocks l k) b) (new_claim n b has k (omega (arith, low)))
+      (false_from_ne_true (among (device_blocks l k) b) (λ other. let e : k ≡ n = is.use_of_blocks.once k n b (owns k b other) has in absurd (omega (arith, e, low))))
 
-  pub claims_apart : (n : ℕ) → AreClaimable v (claims_below v image n) (taken plainly s is w.plain n)
+  pub claims_apart : (n : ℕ) → AreClaimable v (claims_below v image n) (device_blocks l n)
   claims_apart n =
-      claimable v (claims_below v image n) (taken plainly s is w.plain n) (λ b h. (
-      let owns = sym (taken_owned plainly s is w.plain n b) ∙ h in
-      record { is_data = is.use_of_blocks.data_blocks n b owns; new = new_claim n b owns n (omega arith) }))
-      (taken_once plainly s is w.plain n)
+      claimable v (claims_below v image n) (device_blocks l n)
+      (λ b h. record { is_data = is.use_of_blocks.data_blocks n b (owns n b h); new = new_claim n b (owns n b h) n (omega arith) })
+      (λ b. (let once = is.use_of_blocks.apart n b in let fewer = within s n b is in omega (arith, once, fewer)))
 
   -- ---- entries
 
   -- a directory's names are counted alike
-  counted_by : (i n : ℕ) (o : Option Node) → IsPlainHeld l n o → naming i (entries_of (blocks_at l n)) ≡ names_in i o
+  counted_by : (i n : ℕ) (o : Option Node) → IsHeld l n o → naming i (entries_of (blocks_at l n)) ≡ names_in i o
   counted_by i n None h = ap (λ bs. naming i (entries_of bs)) (nothing_at l n h).0
-  counted_by i n (Some (IsFile f)) h = ap (λ bs. naming i (entries_of bs)) (nothing_at l n h.1).0
+  counted_by i n (Some (IsFile f)) h = ap (λ bs. naming i (entries_of bs)) h.0.no_blocks
   counted_by i n (Some (IsDirectory d)) h =
-      sym (ap (λ es. meaning i (map.entries es)) h.entries ∙ counted_alike i [] (entries_of (blocks_at l n)) (w.names n))
+      sym (ap (λ es. meaning i (map.entries es)) h.0.entries ∙ counted_alike i [] (entries_of (blocks_at l n)) (w.names n))
 
   counted : (i n : ℕ) → naming i (entries_of (blocks_at l n)) ≡ names_in i (map.get s.tree.nodes n)
-  counted i n = counted_by i n (map.get s.tree.nodes n) (plainly s is w.plain n)
+  counted i n = counted_by i n (map.get s.tree.nodes n) (is.nodes n)
 
   counted_below : (i n : ℕ) → naming i (flat_map (said.entries_of v image) (numbers 0 n)) ≡ name_count s.tree.nodes n i
   unfolding name_count

@@ -1,5 +1,5 @@
--- An image that holds a well-formed state is sound.
-use Rattle.std.proofs.Common.{◌≡◌, ◌≢◌, ℕ, zero, suc, ◌+◌, ◌-◌, ◌*◌, ◌/◌, ◌%◌, ◌<◌, ◌≤◌, true, false, cond, List, [], ◌∷◌, ◌++◌, length, take, drop, get_or, replicate, Option, Some, None, refl, sym, ap, ap₂, subst, ◌∙◌, arith, lit<, append_assoc, append-nil, length-append}
+-- An image that holds a consistent state is sound, strictly where no file is without a name.
+use Rattle.std.proofs.Common.{◌≡◌, ◌≢◌, ℕ, zero, suc, ◌+◌, ◌-◌, ◌*◌, ◌/◌, ◌%◌, ◌<◌, ◌≤◌, Bool, true, false, cond, List, [], ◌∷◌, ◌++◌, length, take, drop, get_or, replicate, Option, Some, None, refl, sym, ap, ap₂, subst, ◌∙◌, arith, lit<, append_assoc, append-nil, length-append}
 use Rattle.std.specs.Prelude.{◌||◌, nat_lt, nat_le, is_some, slice_get, IsTrue, IfSome}
 use Rattle.std.specs.List.{flat_map, AllByRecursion}
 use Rattle.std.specs.Option.{option_map, option_and_then}
@@ -9,7 +9,6 @@ use Rattle.std.proofs.lemmas.List.{take_at, drop_at, take_all, get_or-map, lengt
 use Rattle.std.proofs.lemmas.Nat.{div-add-mod', mod_below}
 use Rattle.std.proofs.lemmas.Option.{slice_get-get_or}
 use Rattle.std.proofs.Math.Path.{fun_ext}
-use Rattle.vx_base.specs.declared.kind.FileKind.{FileKind}
 use Rattle.vx_base.specs.declared.kind.FileKind.TheVariants as kind
 use Rattle.vx_base.specs.declared.inode.Extent.{Extent}
 use Rattle.vx_base.specs.declared.inode.InodeValue.{InodeValue}
@@ -19,7 +18,7 @@ use Rattle.vx_layout.specs.Bits.{bits_bytes}
 use Rattle.vx_layout.specs.Inodes.{layout1, slot_bytes, half_of, IsInode, IsSlot}
 use Rattle.vx_layout.specs.Maps.{MapBlock}
 use Rattle.vx_extents.specs.Extents.{stretches}
-use Rattle.vx_space.specs.Space.{Space, page_blocks}
+use Rattle.vx_space.specs.Space.{page_blocks}
 use Rattle.vx_sound.specs.Said.{Image, block_bytes, inode_bytes_at, inode_said, chain_said, extents_said, blocks_said, claims_below, entries_said, entries_below, directory_blocks}
 use Rattle.vx_sound.specs.Facts.{IsInodeRight, IsMapInPlace, IsMapRight, IsWholeBlock, IsExtentRight, AreExtentsRight, AreInOrder, AreWithoutHoles, FitKind, AreClaimable, AreNamesRight, block_at, AreEntriesRight, HasTarget, AreTargetsRight, FitNames, IsRoot, AreLinksRight, IsBitmapRight}
 use Rattle.vx_sound.specs.Facts as facts
@@ -27,21 +26,23 @@ use Rattle.vx_sound.specs.Reading.{Form, Entries, Extents, Parsed, Stands, IsFor
 use Rattle.vx_sound.specs.Sound.{IsInodeSound, IsSound}
 use Rattle.vx_model.specs.Legal.{IfThere}
 use Rattle.vx_model.specs.Tree.{Node, IsFile, IsDirectory}
-use Rattle.vx_model.specs.Layout.{DirectoryBlock, Layout, Claim, Claimed, volume, blocks_at, space_at, maps_at, block_numbers, is_owned, settled_at, settled_maps, pages_from, chain_at, claim_of}
+use Rattle.vx_model.specs.Layout.{DirectoryBlock, Layout, Claim, Claimed, volume, blocks_at, block_numbers, settled_at, settled_maps, chain_at, claim_of, is_on_device}
 use Rattle.vx_model.specs.State.{State}
 use Rattle.vx_model.specs.Walks.{root}
 use Rattle.vx_model.specs.Contents.{Held, settled_of, inode_for, inode_value, parsed_of}
 use Rattle.vx_model.specs.Images.{content_at}
-use Rattle.vx_model.specs.LaidOut.{IsHeld, IsDirectoryNode, IsLaidOut, IsPlain, IsOnDevice, entries_of}
+use Rattle.vx_model.specs.LaidOut.{IsHeld, IsDirectoryNode, IsLaidOut, entries_of}
 use Rattle.vx_model.specs.Saying.{IsImageOf, StateSays}
-use Rattle.vx_wellformed.specs.WellFormed.{IsWellFormed}
+use Rattle.vx_model.proofs.Spelled.{all_first, all_second}
+use Rattle.vx_wellformed.specs.WellFormed.{IsConsistent, AreNamed}
 use Rattle.vx_wellformed.proofs.Naming.{file_names, directory_names, root_names}
 use Rattle.vx_wellformed.proofs.Reaching.{reached}
 use Rattle.vx_wellformed.proofs.Forms.{whole_blocks, length-slot, length-part}
-use Rattle.vx_wellformed.proofs.Stretches.{IsDataBelow, each_below, in_order, without_holes}
+use Rattle.vx_wellformed.proofs.Stretches.{each_right, in_order}
+use Rattle.vx_wellformed.proofs.Pages.{pages_right}
 use Rattle.vx_wellformed.proofs.Claiming.{claimable_first, claimable_rest, claimable_at}
 use Rattle.vx_wellformed.proofs.Chaining.{link, chain_got, share_is, next_is}
-use Rattle.vx_wellformed.proofs.Saying.{Plainly, held, pages_are, maps_are, page_numbers, below_alike, claims_apart, names_alike, targets, reached_alike}
+use Rattle.vx_wellformed.proofs.Saying.{Within, below_alike, claims_apart, names_alike, targets, reached_alike}
 
 -- ---- lists
 
@@ -54,18 +55,6 @@ at_place P (x ∷ xs) (suc k) d all less = at_place P xs k d all.1 (omega (arith
 all_got : {X : Type 0} (P : X → Type 0) (xs : List X) → ((k : ℕ) (x : X) → slice_get xs k ≡ Some x → P x) → AllByRecursion P xs
 all_got P [] each = tt
 all_got P (x ∷ xs) each = (each 0 x refl, all_got P xs (λ k y h. each (suc k) y h))
-
-all_more : {X : Type 0} (P Q : X → Type 0) → ((x : X) → P x → Q x) → (xs : List X) → AllByRecursion P xs → AllByRecursion Q xs
-all_more P Q more [] all = tt
-all_more P Q more (x ∷ xs) all = (more x all.0, all_more P Q more xs all.1)
-
-all_first : {X : Type 0} (P : X → Type 0) (xs ys : List X) → AllByRecursion P (xs ++ ys) → AllByRecursion P xs
-all_first P [] ys all = tt
-all_first P (x ∷ xs) ys all = (all.0, all_first P xs ys all.1)
-
-all_second : {X : Type 0} (P : X → Type 0) (xs ys : List X) → AllByRecursion P (xs ++ ys) → AllByRecursion P ys
-all_second P [] ys all = all
-all_second P (x ∷ xs) ys all = all_second P xs ys all.1
 
 some_by : {X : Type 0} (P : X → Type 0) (o : Option X) → ((x : X) → o ≡ Some x → P x) → IfSome o P
 some_by P None h = tt
@@ -100,11 +89,10 @@ names_at before (d ∷ ds) (suc k) are less =
 record IsValueOf (h : Held) (i : InodeValue) : Type 0 where
   maps : i.maps ≡ length h.maps
   extents : i.extents ≡ length h.extents
-  size : i.inode.size ≡ h.size
 
 node_value : (h : Held) (node : Node) → IsValueOf h (inode_for h node)
-node_value h (IsFile f) = record { maps = refl; extents = refl; size = refl }
-node_value h (IsDirectory d) = record { maps = refl; extents = refl; size = refl }
+node_value h (IsFile f) = record { maps = refl; extents = refl }
+node_value h (IsDirectory d) = record { maps = refl; extents = refl }
 
 value_by : (h : Held) (o : Option Node) (i : InodeValue) → option_map (inode_for h) o ≡ Some i → IsValueOf h i
 value_by h None i e = absurd cc
@@ -148,16 +136,15 @@ pub record Laws : Type 0 where
       → content_at v p (block_sector (per_block v) b + i) ≡ option_map (λ x. sector_part i (form_bytes v.block x)) (p.forms b)
   pub block : (s : State) (n i : ℕ) (d : DirectoryBlock) → IsLaidOut s → slice_get (blocks_at s.layout n) i ≡ Some d → claim_of s.layout d.block ≡ Some (record { ino = n; form = Some (Entries d.entries) })
   pub map_block : (s : State) (n k : ℕ) (c : Claimed) → IsLaidOut s → slice_get (chain_at s.layout n) k ≡ Some c → claim_of s.layout c.block ≡ Some (record { ino = n; form = c.form })
-  pub owned : (s : State) (b : ℕ) → IsLaidOut s → ((n : ℕ) → IsOnDevice s.layout n) → is_some (claim_of s.layout b) ≡ is_owned s.layout b
-  pub plainly : Plainly
-  pub on_device : (s : State) → IsLaidOut s → IsPlain s → (n : ℕ) → IsOnDevice s.layout n
+  pub on_device : (s : State) (b : ℕ) → is_some (claim_of s.layout b) ≡ is_on_device s.layout b
+  pub within : Within
   pub decoding : DecodingLaws
   pub says : StateSays
 
 volume_is : (l : Layout) → IsVolume (volume l)
 volume_is l = (whole_blocks l).volume
 
-module _ (laws : Laws) (s : State) (w : IsWellFormed s) (image : Image) (stands : Stands (volume s.layout) (parsed_of s) image) where
+module _ (laws : Laws) (s : State) (w : IsConsistent s) (strict : Bool) (named : strict ≡ true → AreNamed s) (image : Image) (stands : Stands (volume s.layout) (parsed_of s) image) where
   abbrev v : Volume
   v = volume s.layout
 
@@ -260,11 +247,7 @@ module _ (laws : Laws) (s : State) (w : IsWellFormed s) (image : Image) (stands 
   chained n i e = laws.says.chain s image here n i e
 
   claims_parted : (n : ℕ) → AreClaimable v (claims_below v image n) (settled_maps l n ++ page_blocks (settled_at l n))
-  claims_parted n =
-      let maps = maps_are laws.plainly s is w.plain n in
-      let pages = ap page_blocks (pages_are laws.plainly s is w.plain n) ∙ page_numbers 0 (blocks_at l n) in
-      subst (λ (ms : List ℕ). AreClaimable v (claims_below v image n) (ms ++ page_blocks (settled_at l n))) (sym maps)
-      (subst (λ (bs : List ℕ). AreClaimable v (claims_below v image n) (maps_at l n ++ bs)) (sym pages) (claims_apart laws.plainly laws.says s w image stands n))
+  claims_parted = claims_apart laws.within laws.says s w image stands
 
   map_in_place : (n k : ℕ) (i : InodeValue) → inode_value s n ≡ Some i → k < i.maps → IsMapInPlace v image n k i
   map_in_place n k i e less =
@@ -292,49 +275,14 @@ module _ (laws : Laws) (s : State) (w : IsWellFormed s) (image : Image) (stands 
 
   -- ---- extents
 
-  -- a directory's size is that of its blocks, and a file has none
-  size_is : (n : ℕ) (i : InodeValue) → inode_value s n ≡ Some i → i.inode.size ≡ 1024 * length (blocks_at l n)
-  size_is n i e =
-      let size = (value n i e).size in
-      let none : (space_at l n).size ≡ 0 = ap (λ (x : Space). x.size) (held laws.plainly s is w.plain n).space in
-      omega (arith, size, none)
-
-  said_extents : (n : ℕ) (i : InodeValue) → inode_value s n ≡ Some i → extents_said v image i ≡ stretches (pages_from 0 (blocks_at l n))
-  said_extents n i e = laws.says.extents s image here n i e ∙ ap stretches (pages_are laws.plainly s is w.plain n)
-
-  said_blocks : (n : ℕ) (i : InodeValue) → inode_value s n ≡ Some i → blocks_said v image i ≡ block_numbers (blocks_at l n)
-  said_blocks n i e = laws.says.blocks s image here n i e ∙ ap page_blocks (pages_are laws.plainly s is w.plain n) ∙ page_numbers 0 (blocks_at l n)
-
-  extent_right : (n : ℕ) (i : InodeValue) → inode_value s n ≡ Some i → (e : Extent) → IsDataBelow (length (blocks_at l n)) e → IsExtentRight v i e
-  extent_right n i at e h =
-      let few = (held laws.plainly s is w.plain n).few in
-      let size = size_is n i at in
-      let below = h.below in record {
-        some = h.some;
-        pages = omega (arith, below, few);
-        below_size = λ kind. omega (arith, below, size);
-        kept = λ kind. absurd (let other = sym h.data_kind ∙ kind in cc);
-      }
-
-  kind_by : (k : FileKind) (n : ℕ) (i : InodeValue) → inode_value s n ≡ Some i → FitKind k v i (block_numbers (blocks_at l n)) (stretches (pages_from 0 (blocks_at l n)))
-  kind_by kind.File n i e = tt
-  kind_by kind.Directory n i e =
-      let count = length-map (blocks_at l n) (λ (d : DirectoryBlock). d.block) in
-      let few = (held laws.plainly s is w.plain n).few in
-      let size = size_is n i e in record {
-        whole = without_holes (blocks_at l n);
-        size = omega (arith, size, count);
-        few = omega (arith, few, count);
-      }
-
   extents_right : (n : ℕ) (i : InodeValue) → inode_value s n ≡ Some i → AreExtentsRight v image n i
   extents_right n i e =
-      let es = said_extents n i e in
-      let bs = laws.says.blocks s image here n i e in record {
-        each = subst (AllByRecursion (IsExtentRight v i)) (sym es) (all_more (IsDataBelow (length (blocks_at l n))) (IsExtentRight v i) (extent_right n i e) (stretches (pages_from 0 (blocks_at l n))) (each_below (blocks_at l n)));
-        order = subst AreInOrder (sym es) (in_order (blocks_at l n));
-        kind = subst (λ (xs : List ℕ). FitKind i.inode.kind v i xs (extents_said v image i)) (sym (said_blocks n i e))
-            (subst (FitKind i.inode.kind v i (block_numbers (blocks_at l n))) (sym es) (kind_by i.inode.kind n i e));
+      let es = laws.says.extents s image here n i e in
+      let bs = laws.says.blocks s image here n i e in
+      let pages = pages_right l is.limit n (map_of.get s.tree.nodes n) i (is.nodes n) e in record {
+        each = subst (AllByRecursion (IsExtentRight v i)) (sym es) (each_right l i (settled_at l n) pages.rising pages.right);
+        order = subst AreInOrder (sym es) (in_order l i (settled_at l n) pages.rising pages.right);
+        kind = subst (λ (xs : List ℕ). FitKind i.inode.kind v i xs (extents_said v image i)) (sym bs) (subst (FitKind i.inode.kind v i (page_blocks (settled_at l n))) (sym es) pages.kind);
         claims = subst (λ (ms : List ℕ). AreClaimable v (claims_below v image n ++ ms) (blocks_said v image i)) (sym (chained n i e))
             (subst (AreClaimable v (claims_below v image n ++ settled_maps l n)) (sym bs)
             (claimable_rest v (claims_below v image n) (settled_maps l n) (page_blocks (settled_at l n)) (claims_parted n)));
@@ -378,7 +326,7 @@ module _ (laws : Laws) (s : State) (w : IsWellFormed s) (image : Image) (stands 
   targets_right n k low less =
       let said = ap (entries_said v image) (block_is n k less) ∙ laws.says.entries s image here n k (block_of n k) (block_got n k less) in
       subst (AllByRecursion (HasTarget v image)) (sym said)
-      (at_place (λ (d : DirectoryBlock). AllByRecursion (HasTarget v image) d.entries) (blocks_at l n) k no_block (entries_all (HasTarget v image) (blocks_at l n) (targets laws.plainly laws.says s w image stands n low)) less)
+      (at_place (λ (d : DirectoryBlock). AllByRecursion (HasTarget v image) d.entries) (blocks_at l n) k no_block (entries_all (HasTarget v image) (blocks_at l n) (targets laws.within laws.says s w image stands n low)) less)
 
   fewer : (n k : ℕ) → k < length (directory_blocks v image (inode_said v image n)) → k < length (blocks_at l n)
   fewer n k less =
@@ -398,12 +346,12 @@ module _ (laws : Laws) (s : State) (w : IsWellFormed s) (image : Image) (stands 
 
   -- ---- links
 
-  links_by : (n : ℕ) (o : Option Node) → map_of.get s.tree.nodes n ≡ o → n ≢ root → IfSome (option_map (inode_for (settled_of l n)) o) (λ i. FitNames true v image n i i.inode.kind)
+  links_by : (n : ℕ) (o : Option Node) → map_of.get s.tree.nodes n ≡ o → n ≢ root → IfSome (option_map (inode_for (settled_of l n)) o) (λ i. FitNames strict v image n i i.inode.kind)
   links_by n None at ne = tt
-  links_by n (Some (IsFile f)) at ne = record { links = names_alike laws.plainly laws.says s w image stands n ∙ file_names s w.links n f at; some = λ e. (w.plain.files n f at).0.some_links }
+  links_by n (Some (IsFile f)) at ne = record { links = names_alike laws.within laws.says s w image stands n ∙ file_names s w.links n f at; some = λ e. named e n f at }
   links_by n (Some (IsDirectory d)) at ne = record {
-    one = names_alike laws.plainly laws.says s w image stands n ∙ directory_names s w.links n d at ne;
-    reached = reached_alike laws.plainly laws.says s w image stands n (reached s w.links w.no_loops n d at);
+    one = names_alike laws.within laws.says s w image stands n ∙ directory_names s w.links n d at ne;
+    reached = reached_alike laws.within laws.says s w image stands n (reached s w.links w.no_loops n d at);
   }
 
   root_kind : (h : Held) (o : Option Node) → IfThere o IsDirectoryNode → option_map (λ (i : InodeValue). i.inode.kind) (option_map (inode_for h) o) ≡ Some kind.Directory
@@ -414,13 +362,13 @@ module _ (laws : Laws) (s : State) (w : IsWellFormed s) (image : Image) (stands 
   root_right : IsRoot v image (inode_said v image root)
   root_right = record {
     directory = ap (option_map (λ (i : InodeValue). i.inode.kind)) (laws.says.inodes s image here root) ∙ root_kind (settled_of l root) (map_of.get s.tree.nodes root) is.has_root;
-    no_name = names_alike laws.plainly laws.says s w image stands root ∙ root_names s w.links is.has_root;
+    no_name = names_alike laws.within laws.says s w image stands root ∙ root_names s w.links is.has_root;
   }
 
-  links_right : (n : ℕ) → AreLinksRight true v image n
+  links_right : (n : ℕ) → AreLinksRight strict v image n
   links_right n = record {
     root_is = λ e. subst (λ (k : ℕ). IsRoot v image (inode_said v image k)) (sym e) root_right;
-    other = λ ne. subst (λ (o : Option InodeValue). IfSome o (λ i. FitNames true v image n i i.inode.kind)) (sym (laws.says.inodes s image here n)) (links_by n (map_of.get s.tree.nodes n) refl ne);
+    other = λ ne. subst (λ (o : Option InodeValue). IfSome o (λ i. FitNames strict v image n i i.inode.kind)) (sym (laws.says.inodes s image here n)) (links_by n (map_of.get s.tree.nodes n) refl ne);
   }
 
   -- ---- bitmaps
@@ -432,7 +380,7 @@ module _ (laws : Laws) (s : State) (w : IsWellFormed s) (image : Image) (stands 
   used_alike : (u j : ℕ) → used_in v (parsed_of s) u j ≡ facts.used_in v image u j
   used_alike u j =
       ap (λ t. nat_lt j (first_data (per_block v)) || t)
-      (some_ino (claim_of l (unit_block v u + j)) ∙ laws.owned s (unit_block v u + j) is (laws.on_device s is w.plain) ∙ sym (below_alike laws.plainly laws.says s w image stands (unit_block v u + j) (128 * l.units)))
+      (some_ino (claim_of l (unit_block v u + j)) ∙ laws.on_device s (unit_block v u + j) ∙ sym (below_alike laws.within laws.says s w image stands (unit_block v u + j) (128 * l.units)))
 
   blank_is : (u : ℕ) → u < l.units → image (bitmap_sector v u + 1) ≡ replicate 512 0
   blank_is u low = subst (λ (q : Place). IfSome (content v (parsed_of s) q) (λ bytes. image (bitmap_sector v u + 1) ≡ bytes)) (blank_place l u low) (stands (bitmap_sector v u + 1))
@@ -446,7 +394,7 @@ module _ (laws : Laws) (s : State) (w : IsWellFormed s) (image : Image) (stands 
       one_only : (i : ℕ) → 0 < i → i < 2 → i ≡ 1
       one_only i some few = omega arith
 
-  pub sound : IsSound true v image
+  pub sound : IsSound strict v image
   sound = record {
     inodes = inode_sound;
     links = λ n low. links_right n;

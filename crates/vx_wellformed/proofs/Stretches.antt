@@ -1,29 +1,26 @@
--- The extents of a directory's pages: in order, without a hole, and no more pages than it has blocks.
-use Rattle.std.proofs.Common.{◌≡◌, ℕ, suc, ◌+◌, ◌≤◌, Bool, true, false, cond, List, [], ◌∷◌, length, refl, sym, ◌∙◌, ap, subst, arith}
-use Rattle.std.specs.Prelude.{◌&&◌, ◌==◌}
+-- The extents of pages: in order and each right where the pages are, and without a hole where the pages are a directory's.
+use Rattle.std.proofs.Common.{◌≡◌, ℕ, suc, ◌+◌, ◌*◌, ◌<◌, ◌≤◌, Bool, true, false, cond, List, [], ◌∷◌, length, refl, sym, ◌∙◌, subst, arith}
+use Rattle.std.specs.Prelude.{bit_and}
 use Rattle.std.specs.List.{AllByRecursion}
-use Rattle.std.proofs.lemmas.Bool.{eqb-true, eq-eqb, and_parts, true≢false}
+use Rattle.std.proofs.lemmas.Bool.{eqb-true, eq-eqb, and_from, and_parts, true≢false}
 use Rattle.vx_base.specs.declared.inode.Extent.{Extent}
-use Rattle.vx_base.specs.declared.kind.Kind.TheVariants.{Data}
-use Rattle.vx_sound.specs.Facts.{AreInOrder, AreWithoutHoles}
-use Rattle.vx_extents.specs.Extents.{Mapped, follows, going_on, extent_from, extents_after, stretches}
-use Rattle.vx_model.specs.Layout.{DirectoryBlock, pages_from}
+use Rattle.vx_base.specs.declared.inode.InodeValue.{InodeValue}
+use Rattle.vx_base.specs.declared.kind.Kind.{Kind}
+use Rattle.vx_base.specs.declared.kind.Kind.TheVariants.{Data, Reserved}
+use Rattle.vx_extents.specs.Extents.{Mapped, same_kind, follows, going_on, extent_from, extents_after, stretches}
+use Rattle.vx_space.specs.Laws.{AreRising}
+use Rattle.vx_space.specs.Space.{most_pages}
+use Rattle.vx_sound.specs.Facts.{IsExtentRight, AreInOrder, AreWithoutHoles}
+use Rattle.vx_model.specs.Layout.{DirectoryBlock, Layout, volume, pages_from}
+use Rattle.vx_model.proofs.Stretching.{same_kinds}
 
--- the page of a directory's block
-abbrev page_of : ℕ → ℕ → Mapped
-page_of page block = record { page = page; block = block; kind = Data }
+-- ---- extents that are in order and right
 
--- an extent of data below a page
-pub record IsDataBelow (end : ℕ) (e : Extent) : Type 0 where
-  pub some : 1 ≤ e.len
-  pub below : e.page + e.len ≤ end
-  pub data_kind : e.kind ≡ Data
-
--- what is said of the extents that begin with a page
-record AreRight (at end : ℕ) (es : List Extent) : Type 0 where
-  each : AllByRecursion (IsDataBelow end) es
-  order : AreInOrder es
-  whole : AreWithoutHoles at es
+-- a page that an inode may have: one of data begins below its size, and one is reserved only where the inode keeps a reservation
+pub record IsPageRight (i : InodeValue) (m : Mapped) : Type 0 where
+  pub low : m.page < most_pages
+  pub below_size : m.kind ≡ Data → 1024 * m.page < i.inode.size
+  pub kept : m.kind ≡ Reserved → bit_and i.inode.attrs.flags 8 ≡ 0
 
 -- the first extent, begun a page earlier
 longer_order : (e f : Extent) (es : List Extent) → e.page + e.len ≡ f.page + f.len → e.start + e.len ≡ f.start + f.len → e.kind ≡ f.kind → AreInOrder (e ∷ es) → AreInOrder (f ∷ es)
@@ -36,62 +33,98 @@ longer_order e f (g ∷ es) pages blocks kinds h = (
   h.1,
 )
 
-goes_on : (page block next g end : ℕ) (es : List Extent) → block + 1 ≡ next → AreRight (page + 1) end (record { page = page + 1; start = next; len = suc g; kind = Data } ∷ es)
-    → AreRight page end (record { page = page; start = block; len = suc (suc g); kind = Data } ∷ es)
-goes_on page block next g end es same h =
-    let below = h.each.0.below in
-    let at : page + 1 + suc g ≡ page + suc (suc g) = omega arith in record {
-      each = (record { some = omega arith; below = omega (arith, below); data_kind = refl }, h.each.1);
-      order = longer_order (record { page = page + 1; start = next; len = suc g; kind = Data }) (record { page = page; start = block; len = suc (suc g); kind = Data }) es at (omega (arith, same)) refl h.order;
-      whole = (refl, refl, subst (λ (k : ℕ). AreWithoutHoles k es) at h.whole.2);
-    }
+kind_itself : (k : Kind) → same_kind k k ≡ true
+kind_itself Data = refl
+kind_itself Reserved = refl
 
-begins : (page block next end : ℕ) (first : Extent) (es : List Extent) → first.page ≡ page + 1 → first.start ≡ next → follows (page_of page block) (page_of (page + 1) next) ≡ false
-    → AreRight (page + 1) end (first ∷ es) → AreRight page end (record { page = page; start = block; len = 1; kind = Data } ∷ first ∷ es)
-begins page block next end first es at from apart h =
-    let below = h.each.0.below in
-    record {
-      each = (record { some = omega arith; below = omega (arith, below, at); data_kind = refl }, h.each);
-      order = (
-        record {
-          later = omega (arith, at);
-          apart = λ pages blocks kinds. (
-              let next_is : block + 1 ≡ next = blocks ∙ from in
-              let same : follows (page_of page block) (page_of (page + 1) next) ≡ true = ap (λ t. t && ((block + 1 == next) && true)) (eq-eqb (page + 1) (page + 1) refl) ∙ ap (λ t. t && true) (eq-eqb (block + 1) next next_is) in
-              absurd (true≢false (sym same ∙ apart)));
-        },
-        h.order,
-      );
-      whole = (refl, refl, h.whole);
-    }
+follows_by : (m n : Mapped) → m.page + 1 ≡ n.page → m.block + 1 ≡ n.block → m.kind ≡ n.kind → follows m n ≡ true
+follows_by m n pages blocks kinds =
+    and_from _ _ (eq-eqb (m.page + 1) n.page pages) (and_from _ _ (eq-eqb (m.block + 1) n.block blocks) (subst (λ (k : Kind). same_kind m.kind k ≡ true) kinds (kind_itself m.kind)))
 
-step : (page block next end : ℕ) (pages : List Mapped) (t : Bool) → follows (page_of page block) (page_of (page + 1) next) ≡ t
-    → AreRight (page + 1) end (extent_from (page_of (page + 1) next) pages ∷ extents_after (page_of (page + 1) next) pages)
-    → AreRight page end (record { page = page; start = block; len = suc (cond t (suc (going_on (page_of (page + 1) next) pages)) 0); kind = Data }
+module _ (l : Layout) (i : InodeValue) where
+  record AreRight (es : List Extent) : Type 0 where
+    each : AllByRecursion (IsExtentRight (volume l) i) es
+    order : AreInOrder es
+
+  -- an extent of one page
+  one_right : (m : Mapped) → IsPageRight i m → IsExtentRight (volume l) i (record { page = m.page; start = m.block; len = 1; kind = m.kind })
+  one_right m h = record {
+    some = omega arith;
+    pages = (let low = h.low in omega (arith, low));
+    below_size = λ e. (let below = h.below_size e in omega (arith, below));
+    kept = h.kept;
+  }
+
+  longer_right : (m n : Mapped) (g : ℕ) → m.page + 1 ≡ n.page → m.kind ≡ n.kind → IsExtentRight (volume l) i (record { page = n.page; start = n.block; len = suc g; kind = n.kind })
+      → IsExtentRight (volume l) i (record { page = m.page; start = m.block; len = suc (suc g); kind = m.kind })
+  longer_right m n g next same h = record {
+    some = omega arith;
+    pages = (let pages = h.pages in omega (arith, next, pages));
+    below_size = λ e. (let below = h.below_size (sym same ∙ e) in omega (arith, next, below));
+    kept = λ e. h.kept (sym same ∙ e);
+  }
+
+  step : (m n : Mapped) (pages : List Mapped) (t : Bool) → follows m n ≡ t → IsPageRight i m → m.page + 1 ≤ n.page → AreRight (extent_from n pages ∷ extents_after n pages)
+      → AreRight (record { page = m.page; start = m.block; len = suc (cond t (suc (going_on n pages)) 0); kind = m.kind } ∷ cond t (extents_after n pages) (extent_from n pages ∷ extents_after n pages))
+  step m n pages true e right rises h =
+      let one = and_parts _ _ e in
+      let two = and_parts _ _ one.1 in
+      let next : m.page + 1 ≡ n.page = eqb-true _ _ one.0 in
+      let block : m.block + 1 ≡ n.block = eqb-true _ _ two.0 in
+      let kind : m.kind ≡ n.kind = same_kinds _ _ two.1 in record {
+        each = (longer_right m n (going_on n pages) next kind h.each.0, h.each.1);
+        order = longer_order (extent_from n pages) (record { page = m.page; start = m.block; len = suc (suc (going_on n pages)); kind = m.kind }) (extents_after n pages) (omega (arith, next)) (omega (arith, block)) (sym kind) h.order;
+      }
+  step m n pages false e right rises h = record {
+    each = (one_right m right, h.each);
+    order = (record { later = rises; apart = λ next block kind. absurd (true≢false (sym (follows_by m n next block kind) ∙ e)) }, h.order);
+  }
+
+  first_right : (m : Mapped) (pages : List Mapped) → IsPageRight i m → AreRising (m.page + 1) pages → AllByRecursion (IsPageRight i) pages → AreRight (extent_from m pages ∷ extents_after m pages)
+  first_right m [] right rising all = record { each = (one_right m right, tt); order = tt }
+  first_right m (n ∷ pages) right rising all = step m n pages (follows m n) refl right rising.0 (first_right n pages all.0 rising.2 all.1)
+
+  all_right : (from : ℕ) (pages : List Mapped) → AreRising from pages → AllByRecursion (IsPageRight i) pages → AreRight (stretches pages)
+  all_right from [] rising all = record { each = tt; order = tt }
+  all_right from (m ∷ pages) rising all = first_right m pages all.0 rising.2 all.1
+
+  pub each_right : (pages : List Mapped) → AreRising 0 pages → AllByRecursion (IsPageRight i) pages → AllByRecursion (IsExtentRight (volume l) i) (stretches pages)
+  each_right pages rising all = (all_right 0 pages rising all).each
+
+  pub in_order : (pages : List Mapped) → AreRising 0 pages → AllByRecursion (IsPageRight i) pages → AreInOrder (stretches pages)
+  in_order pages rising all = (all_right 0 pages rising all).order
+
+-- ---- a directory's pages
+
+pub directory_rises : (page : ℕ) (ds : List DirectoryBlock) → page + length ds ≤ 64 → AreRising page (pages_from page ds)
+directory_rises page [] few = tt
+directory_rises page (d ∷ ds) few = (omega arith, omega (arith, few), directory_rises (page + 1) ds (omega (arith, few)))
+
+pub directory_right : (i : InodeValue) (page : ℕ) (ds : List DirectoryBlock) → page + length ds ≤ 64 → 1024 * (page + length ds) ≤ i.inode.size → AllByRecursion (IsPageRight i) (pages_from page ds)
+directory_right i page [] few size = tt
+directory_right i page (d ∷ ds) few size = (
+  record { low = omega (arith, few); below_size = λ e. omega (arith, size); kept = λ e. absurd cc },
+  directory_right i (page + 1) ds (omega (arith, few)) (omega (arith, size)),
+)
+
+-- the page of a directory's block
+abbrev page_of : ℕ → ℕ → Mapped
+page_of page block = record { page = page; block = block; kind = Data }
+
+whole_by : (page block next : ℕ) (pages : List Mapped) (t : Bool) → AreWithoutHoles (page + 1) (extent_from (page_of (page + 1) next) pages ∷ extents_after (page_of (page + 1) next) pages)
+    → AreWithoutHoles page (record { page = page; start = block; len = suc (cond t (suc (going_on (page_of (page + 1) next) pages)) 0); kind = Data }
     ∷ cond t (extents_after (page_of (page + 1) next) pages) (extent_from (page_of (page + 1) next) pages ∷ extents_after (page_of (page + 1) next) pages))
-step page block next end pages true e h =
-    let one = and_parts _ _ e in
-    let two = and_parts _ _ one.1 in
-    goes_on page block next (going_on (page_of (page + 1) next) pages) end (extents_after (page_of (page + 1) next) pages) (eqb-true _ _ two.0) h
-step page block next end pages false e h =
-    begins page block next end (extent_from (page_of (page + 1) next) pages) (extents_after (page_of (page + 1) next) pages) refl refl e h
+whole_by page block next pages true h =
+    let g : ℕ = going_on (page_of (page + 1) next) pages in
+    let at : page + 1 + suc g ≡ page + suc (suc g) = omega arith in
+    (refl, refl, subst (λ (k : ℕ). AreWithoutHoles k (extents_after (page_of (page + 1) next) pages)) at h.2)
+whole_by page block next pages false h = (refl, refl, h)
 
-first_right : (page block : ℕ) (ds : List DirectoryBlock) (end : ℕ) → page + 1 + length ds ≤ end
-    → AreRight page end (extent_from (page_of page block) (pages_from (page + 1) ds) ∷ extents_after (page_of page block) (pages_from (page + 1) ds))
-first_right page block [] end few = record { each = (record { some = omega arith; below = omega (arith, few); data_kind = refl }, tt); order = tt; whole = (refl, refl, tt) }
-first_right page block (d ∷ ds) end few =
-    step page block d.block end (pages_from (page + 1 + 1) ds) (follows (page_of page block) (page_of (page + 1) d.block)) refl (first_right (page + 1) d.block ds end (omega (arith, few)))
+first_whole : (page block : ℕ) (ds : List DirectoryBlock) → AreWithoutHoles page (extent_from (page_of page block) (pages_from (page + 1) ds) ∷ extents_after (page_of page block) (pages_from (page + 1) ds))
+first_whole page block [] = (refl, refl, tt)
+first_whole page block (d ∷ ds) =
+    whole_by page block d.block (pages_from (page + 1 + 1) ds) (follows (page_of page block) (page_of (page + 1) d.block)) (first_whole (page + 1) d.block ds)
 
-all_right : (ds : List DirectoryBlock) → AreRight 0 (length ds) (stretches (pages_from 0 ds))
-all_right [] = record { each = tt; order = tt; whole = tt }
-all_right (d ∷ ds) = first_right 0 d.block ds (suc (length ds)) (omega arith)
-
-module _ (ds : List DirectoryBlock) where
-  pub each_below : AllByRecursion (IsDataBelow (length ds)) (stretches (pages_from 0 ds))
-  each_below = (all_right ds).each
-
-  pub in_order : AreInOrder (stretches (pages_from 0 ds))
-  in_order = (all_right ds).order
-
-  pub without_holes : AreWithoutHoles 0 (stretches (pages_from 0 ds))
-  without_holes = (all_right ds).whole
+pub without_holes : (ds : List DirectoryBlock) → AreWithoutHoles 0 (stretches (pages_from 0 ds))
+without_holes [] = tt
+without_holes (d ∷ ds) = first_whole 0 d.block ds

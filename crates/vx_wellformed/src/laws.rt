@@ -37,7 +37,7 @@ pub fn well_formed_laws()
     fresh_reads();
 }
 
-/// An image that holds a well-formed state passes the image check.
+/// An image that holds a consistent state passes the image check, strictly where each of its files has a name.
 pub fn state_sound()
     ensures { StateSound }
 {
@@ -45,7 +45,6 @@ pub fn state_sound()
     sector_contents();
     log_says();
     claims();
-    plain_states();
     state_says();
 }
 

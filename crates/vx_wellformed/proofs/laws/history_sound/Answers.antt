@@ -21,7 +21,8 @@ returns c =
     let stays : (s : State) (place session : ℕ) (call : Call) (done : Done) → step s place session call ≡ Some done → volume done.state.layout ≡ volume s.layout = λ s place session call done is.
     (c.waiting_laws.ensures.step s place session call done is).same_volume in
     let at_volume : (s : State) (v : Volume) (image : ℕ → List ℕ) → IsWellFormed s → volume s.layout ≡ v → Stands v (parsed_of s) image → IsSound true v image = λ s v image w same stands.
-    subst (λ (x : Volume). IsSound true x image) same (c.state_sound.ensures.state s image w (subst (λ (x : Volume). Stands x (parsed_of s) image) (sym same) stands)) in
+    let well = c.state_sound.ensures.consistent s w in
+    subst (λ (x : Volume). IsSound true x image) same (c.state_sound.ensures.strict s image well.0 well.1 (subst (λ (x : Volume). Stands x (parsed_of s) image) (sym same) stands)) in
     let come : (w : World) (events : List Event) (image : ℕ → List ℕ) → IsWellFormed w.state → AllByRecursion HasModes events → Stands (volume w.state.layout) (parsed_of (after_all w events).state) image
     → IsSound true (volume w.state.layout) image = λ w events image well modes.
     at_volume (after_all w events).state (volume w.state.layout) image (kept.history w events well modes) (volume_all stays w events) in
