@@ -84,21 +84,25 @@ module _ (laws : KernelLaws) (v : Super) (s : State) (is_super : IsSuper v) (m :
   is_super_with clean = record { log_low = is_super.log_low; log_high = is_super.log_high; units_low = is_super.units_low; units_high = is_super.units_high }
 
   replays_with : (clean : Bool) (t : Tape) → Level t → (image : ℕ → List ℕ) → IsImage t image → image 0 ≡ super_bytes (super_with clean) → ReplaysSettled s image
-  replays_with clean t l image is super = let found = laws.tree s (block_bytes (volume s.layout) image) m.consistent.laid_out in record { tree = found.0; settled = found.1; replays = record {
-    first = super_with clean;
-    is_first = is_super_with clean;
-    first_is = super;
-    first_room = has_room v s m;
-    records = [];
-    superblock = super_with clean;
-    is_super = is_super_with clean;
-    superblock_is = super;
-    same_log = refl;
-    room = has_room v s m;
-    log = record { serial = serial; tail = position; head = position; serial_limit = l.serial_limit; limit = l.limit; form = tt; head_is = l.head (image 2) (is 2); ends = omega arith; fits = omega arith; whole = λ i lt. absurd (omega (arith, lt)) };
-    sound = image_sound t l image is;
-    reads = image_reads t l image is found.0 found.1;
-  } }
+  replays_with clean t l image is super = let found = laws.tree s (block_bytes (volume s.layout) image) m.consistent.laid_out in record {
+    tree = found.0;
+    settled = found.1;
+    replays = record {
+      first = super_with clean;
+      is_first = is_super_with clean;
+      first_is = super;
+      first_room = has_room v s m;
+      records = [];
+      superblock = super_with clean;
+      is_super = is_super_with clean;
+      superblock_is = super;
+      same_log = refl;
+      room = has_room v s m;
+      log = record { serial = serial; tail = position; head = position; serial_limit = l.serial_limit; limit = l.limit; form = tt; head_is = l.head (image 2) (is 2); ends = omega arith; fits = omega arith; whole = λ i lt. absurd (omega (arith, lt)) };
+      sound = image_sound t l image is;
+      reads = image_reads t l image is found.0 found.1;
+    };
+  }
 
   -- whatever a crash leaves replays as the state's tree with what is settled
   pub level_replays : (t : Tape) → Level t → (image : ℕ → List ℕ) → IsImage t image → ReplaysSettled s image
@@ -114,23 +118,27 @@ module _ (laws : KernelLaws) (v : Super) (s : State) (is_super : IsSuper v) (m :
       let image : ℕ → List ℕ = now (did Barrier t) in
       let is : IsImage (did Barrier t) image = (λ q. laws.tape.now_may (did Barrier t) q) in
       let found = laws.tree s (block_bytes (volume s.layout) image) m.consistent.laid_out in
-      record { tree = found.0; settled = found.1; left = record {
-        one = λ q x may. laws.tape.barrier_leaves_one t q x may;
-        clean = record {
-          superblock = clean_super v;
-          is_super = is_super_with true;
-          superblock_is = settles (image 0) (is 0);
-          clean = refl;
-          room = has_room v s m;
-          serial = serial;
-          tail = position;
-          serial_limit = l.serial_limit;
-          limit = l.limit;
-          head_is = l2.head (image 2) (is 2);
-          sound = image_sound (did Barrier t) l2 image is;
-          reads = image_reads (did Barrier t) l2 image is found.0 found.1;
+      record {
+        tree = found.0;
+        settled = found.1;
+        left = record {
+          one = λ q x may. laws.tape.barrier_leaves_one t q x may;
+          clean = record {
+            superblock = clean_super v;
+            is_super = is_super_with true;
+            superblock_is = settles (image 0) (is 0);
+            clean = refl;
+            room = has_room v s m;
+            serial = serial;
+            tail = position;
+            serial_limit = l.serial_limit;
+            limit = l.limit;
+            head_is = l2.head (image 2) (is 2);
+            sound = image_sound (did Barrier t) l2 image is;
+            reads = image_reads (did Barrier t) l2 image is found.0 found.1;
+          };
         };
-      } }
+      }
 
   -- behind that of a mounted one
   pub begun_at : (t : Tape) → Level t → Settles t 0 (super_bytes (mounted_super v)) → IsBegun v s serial position (did Barrier t)

@@ -1,5 +1,5 @@
 -- What is kept says of each moment: every image is allowed. And the log begins to be emptied.
-use Rattle.std.proofs.Common.{◌≡◌, ℕ, ◌≤◌, List, [], length, ap, Option, Some, None, subst, arith, inl}
+use Rattle.std.proofs.Common.{◌≡◌, ℕ, ◌≤◌, List, [], length, Option, Some, None, subst, arith, inl}
 use Rattle.std.specs.Prelude.{IfSome}
 use Rattle.vx_dev.specs.Tape.{Tape, State as Device, IsImage, IsInStep}
 use Rattle.vx_layout.specs.LogForms.{AfterImage, LogState}

@@ -61,21 +61,25 @@ module _ (laws : KernelLaws) where
       let mounted : IsSuper (mounted_super v) = record { log_low = is_super.log_low; log_high = is_super.log_high; units_low = is_super.units_low; units_high = is_super.units_high } in
       let here : images.Stands (volume s.layout) (parsed_of s) over = subst (λ (w : Volume). images.Stands w (parsed_of s) over) (sym (same_volume v s m)) stands in
       let found = laws.tree s (block_bytes (volume s.layout) over) m.consistent.laid_out in
-      record { tree = found.0; settled = found.1; replays = record {
-        first = mounted_super v;
-        is_first = mounted;
-        first_is = super_is;
-        first_room = has_room v s m;
-        records = r.records;
-        superblock = mounted_super v;
-        is_super = mounted;
-        superblock_is = k.unnamed (image 0) ∙ super_is;
-        same_log = refl;
-        room = has_room v s m;
-        log = record { serial = r.serial; tail = r.tail; head = r.head; serial_limit = k.serial; limit = k.limit; form = wider_forms (log_size v) (device_size v) s.layout.device_sectors (has_room v s m) r.records k.form; head_is = reads.head_is; ends = reads.ends; fits = reads.fits; whole = reads.whole };
-        sound = subst (λ (w : Volume). IsSound false w over) (same_volume v s m) (laws.sound s over m.consistent here);
-        reads = subst (λ (w : Volume). ImageReadsAs w over found.0) (same_volume v s m) (laws.reads s over found.0 m.consistent.laid_out here found.1);
-      } }
+      record {
+        tree = found.0;
+        settled = found.1;
+        replays = record {
+          first = mounted_super v;
+          is_first = mounted;
+          first_is = super_is;
+          first_room = has_room v s m;
+          records = r.records;
+          superblock = mounted_super v;
+          is_super = mounted;
+          superblock_is = k.unnamed (image 0) ∙ super_is;
+          same_log = refl;
+          room = has_room v s m;
+          log = record { serial = r.serial; tail = r.tail; head = r.head; serial_limit = k.serial; limit = k.limit; form = wider_forms (log_size v) (device_size v) s.layout.device_sectors (has_room v s m) r.records k.form; head_is = reads.head_is; ends = reads.ends; fits = reads.fits; whole = reads.whole };
+          sound = subst (λ (w : Volume). IsSound false w over) (same_volume v s m) (laws.sound s over m.consistent here);
+          reads = subst (λ (w : Volume). ImageReadsAs w over found.0) (same_volume v s m) (laws.reads s over found.0 m.consistent.laid_out here found.1);
+        };
+      }
 
 -- ---- and is allowed
 
