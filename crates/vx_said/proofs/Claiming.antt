@@ -2,7 +2,6 @@
 use Rattle.std.proofs.Common.{◌≡◌, ℕ, zero, suc, ◌+◌, ◌*◌, ◌<◌, ◌≤◌, Bool, true, false, cond, List, [], ◌∷◌, ◌++◌, map, take, drop, Option, Some, None, inl, inr, refl, sym, ap, ap₂, subst, ◌∙◌, arith}
 use Rattle.std.specs.Prelude.{◌||◌, ◌==◌}
 use Rattle.std.specs.Option.{option_map, option_and_then}
-use Rattle.std.specs.List.{flat_map}
 use Rattle.std.proofs.lemmas.Bool.{cases_Bool, cases_lt, true≢false, eqb-true, or_parts}
 use Rattle.std.proofs.lemmas.List.Folds.{list_any-append}
 use Rattle.vx_base.specs.declared.kind.FileKind.{FileKind}
@@ -13,22 +12,23 @@ use Rattle.vx_base.specs.declared.inode.InodeValue.{InodeValue}
 use Rattle.vx_layout.specs.Places.{Volume}
 use Rattle.vx_layout.specs.Supers.{volume_of}
 use Rattle.vx_layout.specs.declared.superblock.Super.{Super}
-use Rattle.vx_sound.specs.Said.{Image, among, inode_count, inode_said, map_said, chain_said, extent_blocks, blocks_said, directory_blocks, claimed_by, claims_below, entries_said}
+use Rattle.vx_sound.specs.Said.{Image, among, inode_count, inode_said, map_said, chain_said, extents_said, blocks_said, blocks_by_kind, claimed_by, claims_below, entries_said}
 use Rattle.vx_sound.specs.Facts.{AreClaimable}
-use Rattle.vx_sound.specs.Reading.{Form, Entries, Extents, HasWholeBlocks, owner_below, owner, form_by_kind, form_in, form_said, ClaimLaws}
+use Rattle.vx_sound.specs.Reading.{Extents, HasWholeBlocks, owner_below, owner, form_by_kind, form_in, form_said, ClaimLaws}
 use Rattle.vx_sound.specs.Sound.{IsSound}
 use Rattle.vx_sound.proofs.Sounds.{claims_more}
-use Rattle.vx_extents.specs.Extents.{stretches}
-use Rattle.vx_space.specs.Space.{maps_for}
+use Rattle.vx_extents.specs.Extents.{Mapped, stretches}
+use Rattle.vx_space.specs.Space.{page_blocks, maps_for}
 use Rattle.vx_space.specs.Uses.{uses}
-use Rattle.vx_model.specs.Layout.{Claim, Claimed, block_numbers, owned, settled_at, settled_maps, chain_of, chain_at, names_claimed, claimed_at, claim_among, or_claim, claim_below, claim_of}
+use Rattle.vx_model.specs.Layout.{Claim, Claimed, block_numbers, owned, settled_at, settled_maps, chain_of, chain_at, names_claimed, page_claimed, claimed_at, claim_among, or_claim, claim_below, claim_of}
+use Rattle.vx_model.specs.Reads.{pages_said}
 use Rattle.vx_model.specs.LaidOut.{Owns, IsOnceUsed}
+use Rattle.vx_model.proofs.Stretching.{extents_blocks}
 use Rattle.vx_model.proofs.Uses.{uses_append, not_among, is_among, among_uses}
-use Rattle.vx_said.specs.Plain.{HasPlainFiles}
 use Rattle.vx_said.proofs.Stretches.{block_with}
 use Rattle.vx_said.proofs.Chains.{link_with}
-use Rattle.vx_said.proofs.Inodes.{low, file_extents, all_blocks, chain_links}
-use Rattle.vx_said.proofs.States.{layout, maps_of, settled_extents, settled_chain}
+use Rattle.vx_said.proofs.Inodes.{low, chain_links}
+use Rattle.vx_said.proofs.States.{layout, blocks_of, space_by, space_of, maps_of, settled_extents, settled_chain}
 
 among_both : (xs ys : List ℕ) (b : ℕ) → among (xs ++ ys) b ≡ (among xs b || among ys b)
 among_both xs ys b = list_any-append (λ y. b == y) xs ys
@@ -69,7 +69,7 @@ numbers_again es [] = refl
 numbers_again es (b ∷ bs) = ap (λ (xs : List ℕ). b ∷ xs) (numbers_again es bs)
 
 module _ (laws : ClaimLaws) (once : (v : Volume) (image : Image) → IsSound true v image → AreClaimable v [] (claims_below v image (inode_count v)))
-    (v : Super) (device_sectors : ℕ) (image : Image) (whole : HasWholeBlocks (volume_of v)) (sound : IsSound true (volume_of v) image) (plain : HasPlainFiles (volume_of v) image) where
+    (v : Super) (device_sectors : ℕ) (image : Image) (whole : HasWholeBlocks (volume_of v)) (sound : IsSound true (volume_of v) image) where
   abbrev w : Volume
   w = volume_of v
 
@@ -90,7 +90,7 @@ module _ (laws : ClaimLaws) (once : (v : Volume) (image : Image) → IsSound tru
 
   claimed_low : (n b : ℕ) → (o : Option InodeValue) → inode_said w image n ≡ o → among (claimed_by w image o) b ≡ true → n < 128 * v.units
   claimed_low n b None e h = absurd cc
-  claimed_low n b (Some i) e h = low v image whole sound plain n i e
+  claimed_low n b (Some i) e h = low v image whole sound n i e
 
   claimed_few : (n b : ℕ) → uses (claims_at n) b ≤ 1
   claimed_few n b = elim (cases_Bool (among (claims_at n) b)) [
@@ -101,17 +101,22 @@ module _ (laws : ClaimLaws) (once : (v : Volume) (image : Image) → IsSound tru
     | inr gone ↦ (let none = not_among (claims_at n) b gone in omega (arith, none))
   ]
 
-  uses_by : (n b : ℕ) (o : Option InodeValue) → inode_said w image n ≡ o
-      → uses (block_numbers (map (block_with (entries_said w image)) (directory_blocks w image o)) ++ maps_of v device_sectors image o) b ≡ uses (claimed_by w image o) b
-  uses_by n b None e = refl
-  uses_by n b (Some i) e =
-      let blocks : block_numbers (map (block_with (entries_said w image)) (directory_blocks w image (Some i))) ≡ blocks_said w image i =
-      numbers_again (entries_said w image) (directory_blocks w image (Some i)) ∙ all_blocks v image whole sound plain n i e in
-      ap (λ (xs : List ℕ). uses (xs ++ chain_said w image i) b) blocks
+  kind_uses : (k : FileKind) (i : InodeValue) (b : ℕ)
+      → uses (block_numbers (map (block_with (entries_said w image)) (blocks_by_kind w image i k)) ++ (page_blocks (space_by v device_sectors image k i).present ++ chain_said w image i)) b ≡ uses (claimed_by w image (Some i)) b
+  kind_uses File i b =
+      ap (λ (xs : List ℕ). uses (xs ++ chain_said w image i) b) (sym (extents_blocks (extents_said w image i)))
+      ∙ omega (arith, uses_append (blocks_said w image i) (chain_said w image i) b, uses_append (chain_said w image i) (blocks_said w image i) b)
+  kind_uses Directory i b =
+      ap (λ (xs : List ℕ). uses (xs ++ chain_said w image i) b) (numbers_again (entries_said w image) (blocks_said w image i))
       ∙ omega (arith, uses_append (blocks_said w image i) (chain_said w image i) b, uses_append (chain_said w image i) (blocks_said w image i) b)
 
+  uses_by : (b : ℕ) (o : Option InodeValue)
+      → uses (block_numbers (blocks_of v device_sectors image o) ++ (page_blocks (space_of v device_sectors image o).present ++ maps_of v device_sectors image o)) b ≡ uses (claimed_by w image o) b
+  uses_by b None = refl
+  uses_by b (Some i) = kind_uses i.inode.kind i b
+
   same_uses : (n b : ℕ) → uses (owned (layout v device_sectors image) n) b ≡ uses (claims_at n) b
-  same_uses n b = uses_by n b (inode_said w image n) refl
+  same_uses n b = uses_by b (inode_said w image n)
 
   owns_claims : (n b : ℕ) → Owns (layout v device_sectors image) n b → among (claims_at n) b ≡ true
   owns_claims n b owns =
@@ -139,8 +144,9 @@ module _ (laws : ClaimLaws) (once : (v : Volume) (image : Image) → IsSound tru
 
   -- ---- what is claimed
 
-  abbrev named_claim : ℕ → ℕ → Claim
-  named_claim n b = record { ino = n; form = Some (Entries (entries_said w image b)) }
+  -- a page of an inode of this kind
+  abbrev page_claim : FileKind → ℕ → ℕ → Claim
+  page_claim k n b = record { ino = n; form = form_by_kind w image b k }
 
   abbrev map_claim : ℕ → ℕ → Claim
   map_claim n b = record { ino = n; form = Some (Extents (map_said w image b)) }
@@ -149,9 +155,21 @@ module _ (laws : ClaimLaws) (once : (v : Volume) (image : Image) → IsSound tru
   found_by claim b x true u rest other e h = ap (λ k. Some (claim k)) (sym (eqb-true b x e))
   found_by claim b x false u rest other e h = h
 
-  names_among : (n b : ℕ) (bs : List ℕ) (cs : List Claimed) → claim_among n b (map names_claimed (map (block_with (entries_said w image)) bs) ++ cs) ≡ cond (among bs b) (Some (named_claim n b)) (claim_among n b cs)
+  names_among : (n b : ℕ) (bs : List ℕ) (cs : List Claimed) → claim_among n b (map names_claimed (map (block_with (entries_said w image)) bs) ++ cs) ≡ cond (among bs b) (Some (page_claim Directory n b)) (claim_among n b cs)
   names_among n b [] cs = refl
-  names_among n b (x ∷ bs) cs = found_by (named_claim n) b x (b == x) (among bs b) _ (claim_among n b cs) refl (names_among n b bs cs)
+  names_among n b (x ∷ bs) cs = found_by (page_claim Directory n) b x (b == x) (among bs b) _ (claim_among n b cs) refl (names_among n b bs cs)
+
+  pages_among : (n b : ℕ) (pages : List Mapped) (cs : List Claimed) → claim_among n b (map page_claimed pages ++ cs) ≡ cond (among (page_blocks pages) b) (Some (page_claim File n b)) (claim_among n b cs)
+  pages_among n b [] cs = refl
+  pages_among n b (m ∷ pages) cs = found_by (page_claim File n) b m.block (b == m.block) (among (page_blocks pages) b) _ (claim_among n b cs) refl (pages_among n b pages cs)
+
+  kind_among : (k : FileKind) (i : InodeValue) (n b : ℕ) (cs : List Claimed)
+      → claim_among n b (map names_claimed (map (block_with (entries_said w image)) (blocks_by_kind w image i k)) ++ (map page_claimed (space_by v device_sectors image k i).settled ++ cs))
+      ≡ cond (among (blocks_said w image i) b) (Some (page_claim k n b)) (claim_among n b cs)
+  kind_among File i n b cs =
+      pages_among n b (pages_said w image i) cs
+      ∙ ap (λ (bs : List ℕ). cond (among bs b) (Some (page_claim File n b)) (claim_among n b cs)) (sym (extents_blocks (extents_said w image i)))
+  kind_among Directory i n b cs = names_among n b (blocks_said w image i) cs
 
   links_among : (n extents maps b : ℕ) (bs : List ℕ) → claim_among n b (map (link_with v image n extents maps) bs) ≡ cond (among bs b) (Some (map_claim n b)) None
   links_among n extents maps b [] = refl
@@ -161,14 +179,12 @@ module _ (laws : ClaimLaws) (once : (v : Volume) (image : Image) → IsSound tru
   abbrev claim_with : ℕ → ℕ → Claim
   claim_with b n = record { ino = n; form = option_and_then (form_in w image b) (inode_said w image n) }
 
-  joined : (n b : ℕ) (i : InodeValue) (c d : Bool) → among (chain_said w image i) b ≡ c → (c ≡ true → d ≡ true → ⊥) → (d ≡ true → form_by_kind w image b i.inode.kind ≡ Some (Entries (entries_said w image b)))
-      → cond d (Some (named_claim n b)) (cond c (Some (map_claim n b)) None) ≡ cond (c || d) (Some (record { ino = n; form = form_in w image b i })) None
-  joined n b i true true e apart form = absurd (apart refl refl)
-  joined n b i true false e apart form = ap (λ (t : Bool). Some (record { ino = n; form = cond t (Some (Extents (map_said w image b))) (form_by_kind w image b i.inode.kind) })) (sym e)
-  joined n b i false true e apart form =
-      ap (λ (f : Option Form). Some (record { ino = n; form = f })) (sym (form refl))
-      ∙ ap (λ (t : Bool). Some (record { ino = n; form = cond t (Some (Extents (map_said w image b))) (form_by_kind w image b i.inode.kind) })) (sym e)
-  joined n b i false false e apart form = refl
+  joined : (n b : ℕ) (i : InodeValue) (c d : Bool) → among (chain_said w image i) b ≡ c → (c ≡ true → d ≡ true → ⊥)
+      → cond d (Some (page_claim i.inode.kind n b)) (cond c (Some (map_claim n b)) None) ≡ cond (c || d) (Some (record { ino = n; form = form_in w image b i })) None
+  joined n b i true true e apart = absurd (apart refl refl)
+  joined n b i true false e apart = ap (λ (t : Bool). Some (record { ino = n; form = cond t (Some (Extents (map_said w image b))) (form_by_kind w image b i.inode.kind) })) (sym e)
+  joined n b i false true e apart = ap (λ (t : Bool). Some (record { ino = n; form = cond t (Some (Extents (map_said w image b))) (form_by_kind w image b i.inode.kind) })) (sym e)
+  joined n b i false false e apart = refl
 
   module _ (n : ℕ) (i : InodeValue) (e : inode_said w image n ≡ Some i) (b : ℕ) where
     parts_apart : among (chain_said w image i) b ≡ true → among (blocks_said w image i) b ≡ true → ⊥
@@ -179,28 +195,22 @@ module _ (laws : ClaimLaws) (once : (v : Volume) (image : Image) → IsSound tru
         let other = among_uses (blocks_said w image i) b y in
         absurd (omega (arith, few, both, one_, other))
 
-    form_by : (k : FileKind) → i.inode.kind ≡ k → among (blocks_said w image i) b ≡ true → form_by_kind w image b k ≡ Some (Entries (entries_said w image b))
-    form_by File kind h = absurd (true≢false (sym h ∙ ap (λ (es : List Extent). among (flat_map extent_blocks es) b) (file_extents v image whole sound plain n i e kind)))
-    form_by Directory kind h = refl
-
     chain_is : chain_at (layout v device_sectors image) n ≡ map (link_with v image n i.extents i.maps) (chain_said w image i)
     chain_is =
-        ap₂ (λ (es : List Extent) (ms : List ℕ). chain_of n (drop 6 es) ms) (settled_extents v device_sectors image whole sound plain n i e) (settled_chain v device_sectors image whole sound plain n i e)
-        ∙ chain_links v image whole sound plain n i e
+        ap₂ (λ (es : List Extent) (ms : List ℕ). chain_of n (drop 6 es) ms) (settled_extents v device_sectors image whole sound n i e) (settled_chain v device_sectors image whole sound n i e)
+        ∙ chain_links v image whole sound n i e
 
     claim_there : claim_among n b (claimed_at (layout v device_sectors image) n) ≡ cond (among (claimed_by w image (Some i)) b) (Some (record { ino = n; form = form_in w image b i })) None
     claim_there =
-        names_among n b (directory_blocks w image (inode_said w image n)) (chain_at (layout v device_sectors image) n)
-        ∙ ap₂ (λ (t : Bool) (cs : List Claimed). cond t (Some (named_claim n b)) (claim_among n b cs))
-        (ap (λ (o : Option InodeValue). among (directory_blocks w image o) b) e ∙ ap (λ (bs : List ℕ). among bs b) (all_blocks v image whole sound plain n i e)) chain_is
-        ∙ ap (λ (o : Option Claim). cond (among (blocks_said w image i) b) (Some (named_claim n b)) o) (links_among n i.extents i.maps b (chain_said w image i))
-        ∙ joined n b i (among (chain_said w image i) b) (among (blocks_said w image i) b) refl parts_apart (form_by i.inode.kind refl)
+        ap₂ (λ (o : Option InodeValue) (cs : List Claimed). claim_among n b (map names_claimed (blocks_of v device_sectors image o) ++ (map page_claimed (space_of v device_sectors image o).settled ++ cs))) e chain_is
+        ∙ kind_among i.inode.kind i n b (map (link_with v image n i.extents i.maps) (chain_said w image i))
+        ∙ ap (λ (o : Option Claim). cond (among (blocks_said w image i) b) (Some (page_claim i.inode.kind n b)) o) (links_among n i.extents i.maps b (chain_said w image i))
+        ∙ joined n b i (among (chain_said w image i) b) (among (blocks_said w image i) b) refl parts_apart
         ∙ ap (λ (t : Bool). cond t (Some (record { ino = n; form = form_in w image b i })) None) (sym (among_both (chain_said w image i) (blocks_said w image i) b))
 
   no_claim : (n b : ℕ) → inode_said w image n ≡ None → claim_among n b (claimed_at (layout v device_sectors image) n) ≡ None
   no_claim n b e =
-      names_among n b (directory_blocks w image (inode_said w image n)) (chain_at (layout v device_sectors image) n)
-      ∙ ap (λ (o : Option InodeValue). cond (among (directory_blocks w image o) b) (Some (named_claim n b)) (claim_among n b (chain_at (layout v device_sectors image) n))) e
+      ap (λ (o : Option InodeValue). claim_among n b (map names_claimed (blocks_of v device_sectors image o) ++ (map page_claimed (space_of v device_sectors image o).settled ++ chain_at (layout v device_sectors image) n))) e
       ∙ ap (claim_among n b) (ap (chain_of n (drop 6 (stretches (settled_at (layout v device_sectors image) n)))) none_settled)
     where
       take_none : (k : ℕ) → ◌≡◌ {A = List ℕ} (take k []) []

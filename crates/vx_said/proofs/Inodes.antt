@@ -1,10 +1,11 @@
 -- What a sound image says of an inode in use.
 use Rattle.std.proofs.Common.{◌≡◌, ◌≢◌, ℕ, ◌+◌, ◌-◌, ◌*◌, ◌<◌, ◌≤◌, Bool, true, false, cond, List, [], ◌∷◌, length, map, drop, get_or, Option, Some, None, inl, inr, refl, sym, ap, subst, ◌∙◌, arith, length-append}
-use Rattle.std.specs.Prelude.{◌&&◌, ◌==◌, nat_lt, nat_le, is_some}
+use Rattle.std.specs.Prelude.{◌&&◌, ◌||◌, ◌==◌, ◌^◌, nat_lt, nat_le, bit_and, is_some}
 use Rattle.std.specs.Option.{option_map, option_and_then}
 use Rattle.std.specs.List.{flat_map, list_all, AllByRecursion}
 use Rattle.std.proofs.lemmas.Bool.{and_parts, eqb-true, leb-true, lt-ltb, ltb-true, cases_lt, cases_eq}
 use Rattle.std.proofs.lemmas.List.{drop_at}
+use Rattle.vx_base.specs.declared.call.ExtAttrs.{ExtAttrs}
 use Rattle.vx_base.specs.declared.kind.FileKind.{FileKind}
 use Rattle.vx_base.specs.declared.kind.FileKind.TheVariants.{File, Directory}
 use Rattle.vx_base.specs.declared.inode.Extent.{Extent}
@@ -15,7 +16,7 @@ use Rattle.vx_layout.specs.Supers.{volume_of}
 use Rattle.vx_layout.specs.declared.superblock.Super.{Super}
 use Rattle.vx_layout.specs.Inodes.{layout1, is_directory_size, attrs_fit, extents_limit, maps_needed, is_map_number, place_has_length, inode_fits, slot_at, IsInode, IsSlot}
 use Rattle.vx_layout.specs.Maps.{MapBlock, map_block_at}
-use Rattle.vx_sound.specs.Said.{Image, inode_count, inode_bytes_at, inode_said, map_said, chain_said, in_place, extents_said, extent_blocks, blocks_said, blocks_by_kind, directory_blocks, entries_said}
+use Rattle.vx_sound.specs.Said.{Image, inode_count, inode_bytes_at, inode_said, map_said, chain_said, in_place, extents_said, blocks_said, entries_said}
 use Rattle.vx_sound.specs.Facts.{IsInodeRight, IsMapRight, IsExtentRight, AreExtentsRight, FitKind, IsDirectoryExtents, FitNames}
 use Rattle.vx_sound.specs.Facts as facts
 use Rattle.vx_sound.specs.Reading.{HasWholeBlocks}
@@ -23,13 +24,14 @@ use Rattle.vx_sound.specs.Sound.{IsInodeSound, IsSound}
 use Rattle.vx_sound.proofs.Sounds.{there}
 use Rattle.vx_sound.proofs.Volumes.{Spelling, spelling}
 use Rattle.vx_extents.specs.Extents.{stretches, chain_len}
+use Rattle.vx_space.specs.Space.{most_extents}
 use Rattle.vx_model.specs.Tree.{no_attrs}
+use Rattle.vx_model.specs.Shapes.{kept_attrs}
 use Rattle.vx_model.specs.Contents.{places}
 use Rattle.vx_model.specs.Layout.{DirectoryBlock, pages_from, first_of, chain_of}
-use Rattle.vx_model.specs.Reads.{extent_pages}
+use Rattle.vx_model.specs.Reads.{pages_said}
 use Rattle.vx_model.proofs.Stretching.{chain_fills}
 use Rattle.vx_model.proofs.Spelled.{all_more}
-use Rattle.vx_said.specs.Plain.{IsPlain, IsPlainIfFile, HasPlainFiles}
 use Rattle.vx_said.proofs.Stretches.{HasLength, stretches_again, block_with, pages_again}
 use Rattle.vx_said.proofs.Places.{places_again, few_in_place, six_in_place}
 use Rattle.vx_said.proofs.Chains.{extents_in, IsLink, IsChain, next_first, whole_chain, chain_extents, chain_again, link_with}
@@ -38,22 +40,31 @@ use Rattle.vx_said.proofs.Chains.{extents_in, IsLink, IsChain, next_first, whole
 
 -- the map blocks are as many as the extents need, and what a file or a directory allows is kept
 pub record HasFields (i : InodeValue) : Type 0 where
+  pub flags : i.inode.attrs.flags < 32
   pub mode : i.inode.mode ≤ 4095
   pub nlink : i.inode.nlink ≤ 32767
+  pub extents : i.extents ≤ most_extents
   pub maps : i.maps ≡ chain_len 63 i.extents
   pub attrs : attrs_fit layout1 i.inode ≡ true
 
 pub has_fields : (i : InodeValue) → inode_fits layout1 i ≡ true → HasFields i
 unfolding inode_fits
 has_fields i fits =
-    let one = (and_parts (nat_lt i.inode.attrs.flags 32) _ fits).1 in
-    let two = and_parts (nat_le i.inode.mode 4095) _ one in
+    let one = and_parts (nat_lt i.inode.attrs.flags 32) _ fits in
+    let two = and_parts (nat_le i.inode.mode 4095) _ one.1 in
     let three = and_parts (nat_le i.inode.nlink 32767) _ two.1 in
-    let four = (and_parts (nat_le i.extents (extents_limit layout1)) _ three.1).1 in
-    let five = and_parts (i.maps == maps_needed layout1 i.extents) _ four in
+    let four = and_parts (nat_le i.extents (extents_limit layout1)) _ three.1 in
+    let five = and_parts (i.maps == maps_needed layout1 i.extents) _ four.1 in
     let six = (and_parts (is_map_number i.map) _ five.1).1 in
     let seven = (and_parts (list_all place_has_length i.first) (attrs_fit layout1 i.inode) six).1 in
-    record { mode = leb-true _ _ two.0; nlink = leb-true _ _ three.0; maps = eqb-true _ _ five.0; attrs = seven }
+    record {
+      flags = ltb-true _ _ one.0;
+      mode = leb-true _ _ two.0;
+      nlink = leb-true _ _ three.0;
+      extents = leb-true _ _ four.0;
+      maps = eqb-true _ _ five.0;
+      attrs = seven;
+    }
 
 -- a directory has one link, and no attribute
 pub record HasDirectoryFields (i : Inode) : Type 0 where
@@ -69,11 +80,33 @@ directory_fields i is fits =
     let four = and_parts (i.attrs.fixed == 0) (i.attrs.reserve == 0) three.1 in
     record { nlink = eqb-true _ _ three.0; attrs = λ j. record { fixed = eqb-true _ _ four.0 j; reserve = eqb-true _ _ four.1 j; flags = eqb-true _ _ two.0 j } }
 
+-- a file's size and attributes are within their limits, and one that keeps no reservation has none
+pub record HasFileFields (i : Inode) : Type 0 where
+  pub size : i.size ≤ 2 ^ 26
+  pub fixed : i.attrs.fixed ≤ 4063
+  pub reserve : i.attrs.reserve ≤ 65536
+  pub kept : kept_attrs i.attrs ≡ i.attrs
+
+kept_by : (a : ExtAttrs) (t : Bool) → (t || a.reserve == 0) ≡ true → cond t a (record a { reserve = 0 }) ≡ a
+kept_by a true h = refl
+kept_by a false h = λ j. record { fixed = a.fixed; reserve = sym (eqb-true a.reserve 0 h) j; flags = a.flags }
+
+pub file_fields : (i : Inode) → i.kind ≡ File → attrs_fit layout1 i ≡ true → HasFileFields i
+file_fields i is fits =
+    let one : (nat_le i.size (2 ^ 26) && (nat_le i.attrs.fixed 4063 && (nat_le i.attrs.reserve 65536
+    && (nat_le (i.attrs.reserve * 1024) (2 ^ 26) && (bit_and i.attrs.flags 8 == 0 || i.attrs.reserve == 0))))) ≡ true =
+    sym (ap (λ (k : FileKind). attrs_fit layout1 (record i { kind = k })) is) ∙ fits in
+    let two = and_parts (nat_le i.size (2 ^ 26)) _ one in
+    let three = and_parts (nat_le i.attrs.fixed 4063) _ two.1 in
+    let four = and_parts (nat_le i.attrs.reserve 65536) _ three.1 in
+    let five = (and_parts (nat_le (i.attrs.reserve * 1024) (2 ^ 26)) _ four.1).1 in
+    record { size = leb-true _ _ two.0; fixed = leb-true _ _ three.0; reserve = leb-true _ _ four.0; kept = kept_by i.attrs (bit_and i.attrs.flags 8 == 0) five }
+
 within : {X : Type 0} (t : Bool) (o : Option X) (x : X) → cond t o None ≡ Some x → t ≡ true
 within true o x h = refl
 within false o x h = absurd cc
 
-no_extents : (es : List Extent) → length es ≡ 0 → es ≡ []
+pub no_extents : (es : List Extent) → length es ≡ 0 → es ≡ []
 no_extents [] none = refl
 no_extents (e ∷ es) none = absurd (omega (arith, none))
 
@@ -81,7 +114,13 @@ no_blocks : (bs : List ℕ) → length bs ≡ 0 → bs ≡ []
 no_blocks [] none = refl
 no_blocks (b ∷ bs) none = absurd (omega (arith, none))
 
-module _ (v : Super) (image : Image) (whole : HasWholeBlocks (volume_of v)) (sound : IsSound true (volume_of v) image) (plain : HasPlainFiles (volume_of v) image) where
+module _ (v : Super) (image : Image) where
+  -- an inode in use is one of the volume's
+  pub said_low : (n : ℕ) (i : InodeValue) → inode_said (volume_of v) image n ≡ Some i → n < 128 * v.units
+  unfolding inode_said
+  said_low n i e = ltb-true n (inode_count (volume_of v)) (within (nat_lt n (inode_count (volume_of v))) (option_and_then (λ (o : Option InodeValue). o) (slot_at layout1 (inode_bytes_at (volume_of v) image n))) i e)
+
+module _ (v : Super) (image : Image) (whole : HasWholeBlocks (volume_of v)) (sound : IsSound true (volume_of v) image) where
   abbrev w : Volume
   w = volume_of v
 
@@ -94,13 +133,9 @@ module _ (v : Super) (image : Image) (whole : HasWholeBlocks (volume_of v)) (sou
       ap (λ (t : Bool). cond t (option_and_then (λ (o : Option InodeValue). o) (slot_at layout1 (inode_bytes_at w image n))) None) (lt-ltb n (inode_count w) low)
       ∙ ap (option_and_then (λ (o : Option InodeValue). o)) (ap (slot_at layout1) r.spelled ∙ again.slots_again r.slot r.is_slot)
 
-  said_low : (n : ℕ) (i : InodeValue) → inode_said w image n ≡ Some i → n < 128 * v.units
-  unfolding inode_said
-  said_low n i e = ltb-true n (inode_count w) (within (nat_lt n (inode_count w)) (option_and_then (λ (o : Option InodeValue). o) (slot_at layout1 (inode_bytes_at w image n))) i e)
-
   module _ (n : ℕ) (i : InodeValue) (e : inode_said w image n ≡ Some i) where
     pub low : n < 128 * v.units
-    low = said_low n i e
+    low = said_low v image n i e
 
     all : IsInodeSound w image n
     all = sound.inodes n low
@@ -148,7 +183,7 @@ module _ (v : Super) (image : Image) (whole : HasWholeBlocks (volume_of v)) (sou
     room : i.extents - 6 ≤ 63 * i.maps
     room = let fills = (chain_fills i.extents).room in let maps = fields.maps in omega (arith, fills, maps)
 
-    no_chain : i.extents ≤ 6 → chain_said w image i ≡ []
+    pub no_chain : i.extents ≤ 6 → chain_said w image i ≡ []
     no_chain few = no_blocks (chain_said w image i) (let fills = (chain_fills i.extents).full in let maps = fields.maps in let long = chain_length in omega (arith, fills, maps, long, few))
 
     -- ---- extents
@@ -187,33 +222,17 @@ module _ (v : Super) (image : Image) (whole : HasWholeBlocks (volume_of v)) (sou
     abbrev with_entries : ℕ → DirectoryBlock
     with_entries = block_with (entries_said w image)
 
-    -- what a file has, and what a directory
-    pub plain_file : i.inode.kind ≡ File → IsPlain i
-    plain_file kind = subst (λ (k : FileKind). IsPlainIfFile k i) kind (there (λ (j : InodeValue). IsPlainIfFile j.inode.kind j) (inode_said w image n) i e (plain n))
+    pub pages_stretch : stretches (pages_said w image i) ≡ extents_said w image i
+    pages_stretch = stretches_again (extents_said w image i) lengths extents_right.order
 
     pub directory_extents : i.inode.kind ≡ Directory → IsDirectoryExtents w i (blocks_said w image i) (extents_said w image i)
     directory_extents kind = subst (λ (k : FileKind). FitKind k w i (blocks_said w image i) (extents_said w image i)) kind extents_right.kind
 
-    pub file_extents : i.inode.kind ≡ File → extents_said w image i ≡ []
-    file_extents kind = no_extents (extents_said w image i) (let all_ = count in let none = (plain_file kind).extents in omega (arith, all_, none))
+    pub directory_pages : i.inode.kind ≡ Directory → pages_from 0 (map with_entries (blocks_said w image i)) ≡ pages_said w image i
+    directory_pages kind = sym (pages_again (entries_said w image) 0 (extents_said w image i) (directory_extents kind).whole)
 
-    pub file_chain : i.inode.kind ≡ File → chain_said w image i ≡ []
-    file_chain kind = no_chain (let none = (plain_file kind).extents in omega (arith, none))
-
-    blocks_by : (k : FileKind) → i.inode.kind ≡ k → blocks_by_kind w image i k ≡ blocks_said w image i
-    blocks_by File kind = sym (ap (flat_map extent_blocks) (file_extents kind))
-    blocks_by Directory kind = refl
-
-    -- the blocks of an inode are a directory's
-    pub all_blocks : directory_blocks w image (Some i) ≡ blocks_said w image i
-    all_blocks = blocks_by i.inode.kind refl
-
-    pages_by : (k : FileKind) → i.inode.kind ≡ k → pages_from 0 (map with_entries (blocks_by_kind w image i k)) ≡ flat_map extent_pages (extents_said w image i)
-    pages_by File kind = sym (ap (flat_map extent_pages) (file_extents kind))
-    pages_by Directory kind = sym (pages_again (entries_said w image) 0 (extents_said w image i) (directory_extents kind).whole)
-
-    pub extents_are : stretches (pages_from 0 (map with_entries (directory_blocks w image (Some i)))) ≡ extents_said w image i
-    extents_are = ap stretches (pages_by i.inode.kind refl) ∙ stretches_again (extents_said w image i) lengths extents_right.order
+    pub file_is : i.inode.kind ≡ File → HasFileFields i.inode
+    file_is kind = file_fields i.inode kind fields.attrs
 
     -- ---- names
 

@@ -20,9 +20,9 @@ use Rattle.vx_model.specs.Walks.{root}
 use Rattle.vx_model.specs.Legal.{IfThere}
 use Rattle.vx_model.specs.Contents.{parsed_of}
 use Rattle.vx_model.specs.Reads.{node_by, node_said, ImageReadsAs}
-use Rattle.vx_model.specs.LaidOut.{IsDirectoryNode, IsFileNode, IsLaidOut, IsPlain}
-use Rattle.vx_said.specs.Plain.{HasPlainFiles}
-use Rattle.vx_said.proofs.States.{state, has_whole_blocks, nodes_are, is_node, held, is_plain, values_are}
+use Rattle.vx_model.specs.LaidOut.{IsDirectoryNode, IsFileNode, IsLaidOut}
+use Rattle.vx_said.specs.WholePages.{HasWholePages}
+use Rattle.vx_said.proofs.States.{state, has_whole_blocks, nodes_are, is_node, held, values_are}
 use Rattle.vx_said.proofs.Claiming.{once_used, owners_same, forms_same}
 
 -- what is known of an image that passes the check, of these sizes
@@ -30,7 +30,7 @@ pub record IsSoundImage (v : Super) (device_sectors : ℕ) (image : Image) : Typ
   pub sizes : IsSuper v
   pub room : sectors_of (volume_of v) ≤ device_sectors
   pub sound : IsSound true (volume_of v) image
-  pub plain : HasPlainFiles (volume_of v) image
+  pub pages : HasWholePages (volume_of v) image
 
 pub record Laws : Type 0 where
   pub reading : ReadingLaws
@@ -58,7 +58,7 @@ module _ (laws : Laws) (v : Super) (device_sectors : ℕ) (image : Image) (is : 
   root_by None e kind = absurd cc
   root_by (Some i) e kind =
       let known : i.inode.kind ≡ Directory = cc in
-      subst (λ (o : Option Node). IfThere o IsDirectoryNode) (sym (is_node v device_sectors image whole is.sound is.plain root i e)) (directory_node i.inode.kind i known)
+      subst (λ (o : Option Node). IfThere o IsDirectoryNode) (sym (is_node v device_sectors image whole is.sound root i e)) (directory_node i.inode.kind i known)
 
   pub has_root : IfThere (map_of.get s.tree.nodes root) IsDirectoryNode
   has_root =
@@ -67,8 +67,8 @@ module _ (laws : Laws) (v : Super) (device_sectors : ℕ) (image : Image) (is : 
 
   pub laid_out : IsLaidOut s
   laid_out = record {
-    nodes = held v device_sectors image whole is.sound is.plain;
-    use_of_blocks = once_used laws.claim laws.once v device_sectors image whole is.sound is.plain;
+    nodes = held v device_sectors image whole is.sound is.pages;
+    use_of_blocks = once_used laws.claim laws.once v device_sectors image whole is.sound;
     has_root = has_root;
     units = is.sizes.units_low;
     units_limit = is.sizes.units_high;
@@ -79,15 +79,12 @@ module _ (laws : Laws) (v : Super) (device_sectors : ℕ) (image : Image) (is : 
     tunables = record { some = lit≤ tt; few = lit≤ tt };
   }
 
-  pub plainly : IsPlain s
-  plainly = is_plain v device_sectors image whole is.sound is.plain
-
   -- all that the image says the state does
   same_said : said w image ≡ parsed_of s
   same_said = λ j. record {
-    inodes = fun_ext (λ n. sym (values_are v device_sectors image whole is.sound is.plain n)) j;
-    forms = fun_ext (λ b. sym (forms_same laws.claim laws.once v device_sectors image whole is.sound is.plain b)) j;
-    claims = fun_ext (λ b. sym (owners_same laws.claim laws.once v device_sectors image whole is.sound is.plain b)) j;
+    inodes = fun_ext (λ n. sym (values_are v device_sectors image whole is.sound n)) j;
+    forms = fun_ext (λ b. sym (forms_same laws.claim laws.once v device_sectors image whole is.sound b)) j;
+    claims = fun_ext (λ b. sym (owners_same laws.claim laws.once v device_sectors image whole is.sound b)) j;
   }
 
   pub stands : Stands w (parsed_of s) image

@@ -3,9 +3,13 @@ pub mod Places
 pub mod Chains
 pub mod Inodes
 pub mod Collecting
+pub mod Pages
 pub mod States
 pub mod Claiming
 pub mod LayingOut
 pub mod Names
 pub mod Reaching
 pub mod Plainness
+pub mod PlainStates
+pub mod Files
+pub mod WholeSectors

@@ -80,7 +80,7 @@ module _ (v : Super) (device_sectors : ℕ) (image : Image) (is : IsSoundImage v
   -- an inode with a block is in use
   block_low : (n k : ℕ) (o : Option InodeValue) → inode_said w image n ≡ o → k < length (directory_blocks w image o) → n < 128 * v.units
   block_low n k None e less = absurd (omega (arith, less))
-  block_low n k (Some i) e less = low v image whole is.sound is.plain n i e
+  block_low n k (Some i) e less = low v image whole is.sound n i e
 
   all_entries : (n : ℕ) → said.entries_of w image n ≡ flat_map (entries_said w image) (blocks_said_at n)
   unfolding said.entries_of
@@ -89,7 +89,7 @@ module _ (v : Super) (device_sectors : ℕ) (image : Image) (is : IsSoundImage v
   names_right : (n : ℕ) → AreNamesRight [] (flat_map (entries_said w image) (blocks_said_at n))
   names_right n = names_all (entries_said w image) [] (blocks_said_at n) (λ k less.
       (let r = (is.sound.inodes n (block_low n k (inode_said w image n) refl less)).entries k less in
-      subst (AreNamesRight (entries_below w image n k)) (sym (entries_spelled v device_sectors image whole is.sound is.plain n k r)) r.names))
+      subst (AreNamesRight (entries_below w image n k)) (sym (entries_spelled v device_sectors image whole is.sound n k r)) r.names))
 
   pub has_names : HasNames (layout v device_sectors image)
   has_names n = subst (AreNamesRight []) (sym (all_entries n) ∙ entries_are v device_sectors image n) (names_right n)
@@ -107,7 +107,7 @@ module _ (v : Super) (device_sectors : ℕ) (image : Image) (is : IsSoundImage v
 
   node_counted : (i n : ℕ) (o : Option InodeValue) → inode_said w image n ≡ o → naming i (flat_map (entries_said w image) (directory_blocks w image o)) ≡ names_in i (option_and_then (node_said w image n) o)
   node_counted i n None e = refl
-  node_counted i n (Some j) e = kind_counted i n j j.inode.kind e refl ∙ ap (names_in i) (sym (is_node v device_sectors image whole is.sound is.plain n j e))
+  node_counted i n (Some j) e = kind_counted i n j j.inode.kind e refl ∙ ap (names_in i) (sym (is_node v device_sectors image whole is.sound n j e))
 
   pub counted : (i n : ℕ) → naming i (said.entries_of w image n) ≡ names_in i (map_of.get nodes n)
   counted i n = ap (naming i) (all_entries n) ∙ node_counted i n (inode_said w image n) refl ∙ ap (names_in i) (sym (nodes_are v device_sectors image n))
@@ -168,12 +168,12 @@ module _ (v : Super) (device_sectors : ℕ) (image : Image) (is : IsSoundImage v
   links_by : (n : ℕ) (o : Option InodeValue) → inode_said w image n ≡ o → name_count nodes (128 * v.units) n ≡ link_number n (option_and_then (node_said w image n) o)
   links_by n None e = unnamed n e
   links_by n (Some j) e =
-      sym (names_alike n) ∙ used_links n j e (is.sound.links n (low v image whole is.sound is.plain n j e))
-      ∙ ap (link_number n) (sym (is_node v device_sectors image whole is.sound is.plain n j e))
+      sym (names_alike n) ∙ used_links n j e (is.sound.links n (low v image whole is.sound n j e))
+      ∙ ap (link_number n) (sym (is_node v device_sectors image whole is.sound n j e))
 
   node_low : (n : ℕ) (o : Option InodeValue) (node : Node) → inode_said w image n ≡ o → option_and_then (node_said w image n) o ≡ Some node → n < 128 * v.units
   node_low n None node e there_ = absurd cc
-  node_low n (Some j) node e there_ = low v image whole is.sound is.plain n j e
+  node_low n (Some j) node e there_ = low v image whole is.sound n j e
 
   pub has_links : HasLinks (state v device_sectors image)
   has_links = record {

@@ -66,8 +66,8 @@ module _ (v : Super) (device_sectors : ℕ) (image : Image) (is : IsSoundImage v
   reached_by : (n : ℕ) (o : Option InodeValue) (d : DirectoryNode) → n ≢ root → inode_said w image n ≡ o → option_and_then (node_said w image n) o ≡ Some (IsDirectory d) → IsWalked n
   reached_by n None d ne e there_ = absurd cc
   reached_by n (Some j) d ne e there_ =
-      let node : Some (node_by j.inode.kind w image n j) ≡ Some (IsDirectory d) = sym (is_node v device_sectors image (has_whole_blocks v device_sectors image) is.sound is.plain n j e) ∙ there_ in
-      let fit = there (λ (i : InodeValue). FitNames true w image n i i.inode.kind) (inode_said w image n) j e ((is.sound.links n (low v image (has_whole_blocks v device_sectors image) is.sound is.plain n j e)).other ne) in
+      let node : Some (node_by j.inode.kind w image n j) ≡ Some (IsDirectory d) = sym (is_node v device_sectors image (has_whole_blocks v device_sectors image) is.sound n j e) ∙ there_ in
+      let fit = there (λ (i : InodeValue). FitNames true w image n i i.inode.kind) (inode_said w image n) j e ((is.sound.links n (low v image (has_whole_blocks v device_sectors image) is.sound n j e)).other ne) in
       let way = (one_name n j j.inode.kind d fit cc).reached in
       way_by way.names n way.way
 

@@ -1,2 +1,4 @@
 pub mod Plain
 pub mod SaidState
+pub mod WholePages
+pub mod SaidFiles
