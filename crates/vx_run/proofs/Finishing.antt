@@ -1,5 +1,5 @@
 -- A run that has ended.
-use Rattle.std.proofs.Common.{◌≡◌, ◌⊎◌, ℕ, ◌<◌, ◌≤◌, Bool, true, false, not, ◌&&◌, ◌||◌, List, [], ◌∷◌, length, take, get_or, Option, Some, None, Result, Ok, Err, refl, sym, ◌∙◌, ap, subst, inl, inr, arith}
+use Rattle.std.proofs.Common.{◌≡◌, ℕ, ◌<◌, ◌≤◌, Bool, true, false, not, ◌&&◌, ◌||◌, List, [], ◌∷◌, length, get_or, Option, Some, None, Result, Ok, Err, refl, sym, ◌∙◌, ap, subst, inl, inr, arith}
 use Rattle.std.specs.Prelude.{All, IfSome, OnOk, OnErr, is_ok, is_some, replicate}
 use Rattle.std.specs.Io.KnownBytes.{Appends}
 use Rattle.std.proofs.lemmas.List.{take_all, get_or-replicate, length-replicate}
@@ -27,7 +27,6 @@ use Rattle.vx_core.specs.Tracks.{IsOnCourse, last_event}
 use Rattle.vx_script.specs.Puts.{AppendsPrefix}
 use Rattle.vx_stage.specs.Kernels.{IsLive, Now, present}
 use Rattle.vx_stage.specs.Leads.{state_at}
-use Rattle.vx_stage.specs.declared.kernel.Job.{Job}
 use Rattle.vx_stage.specs.declared.kernel.Job.TheVariants.{Left}
 use Rattle.vx_stage.specs.declared.kernel.Kernel.{Kernel}
 use Rattle.vx_grammar.specs.declared.script.Script.{Script}

@@ -1,5 +1,5 @@
 -- A mount whose history begins, as a core takes it.
-use Rattle.std.proofs.Common.{◌≡◌, ℕ, ◌+◌, ◌<◌, ◌≤◌, ◌^◌, List, [], length, Option, Some, None, refl, sym, ◌∙◌, ap, subst, arith}
+use Rattle.std.proofs.Common.{◌≡◌, ℕ, ◌<◌, ◌≤◌, ◌^◌, List, [], length, sym, ◌∙◌, ap, subst, arith}
 use Rattle.std.specs.Prelude.{vec_capacity}
 use Rattle.vx_base.specs.declared.event.Event.{Event}
 use Rattle.vx_dev.specs.Tape as dev
@@ -12,7 +12,7 @@ use Rattle.vx_txn.specs.declared.meta.Meta.{Meta}
 use Rattle.vx_calls.specs.declared.mount.Mount.{Mount}
 use Rattle.vx_calls.specs.Mounts.{IsAt}
 use Rattle.vx_calls.specs.Potentials.{debt, promised}
-use Rattle.vx_run.specs.Mounted.{IsLeftWhole, Keeps}
+use Rattle.vx_run.specs.Mounted.{Keeps}
 
 -- what the memory stands for before the first call
 pub meta_new : (o : World) (k : Kernel) (m : Meta) → k.history.items ≡ [] → IsStateOf m o.state → IsStateOf m (present o k)

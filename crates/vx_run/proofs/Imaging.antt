@@ -1,24 +1,19 @@
 -- A mount of an image, as a core takes it.
-use Rattle.std.proofs.Common.{◌≡◌, ◌⊎◌, ℕ, ◌+◌, ◌-◌, ◌^◌, ◌<◌, ◌≤◌, true, List, [], length, Option, Some, None, refl, sym, ◌∙◌, ap, subst, inr, arith}
-use Rattle.std.specs.Prelude.{IfSome, min}
+use Rattle.std.proofs.Common.{◌≡◌, ℕ, Option, Some, None, refl, sym, ◌∙◌, ap, subst, arith}
+use Rattle.std.specs.Prelude.{IfSome}
 use Rattle.vx_base.specs.Faults.{Rose}
-use Rattle.vx_dev.specs.Moments.{Told, Always}
+use Rattle.vx_dev.specs.Moments.{Told}
 use Rattle.vx_dev.specs.Tape as dev
 use Rattle.vx_dev.specs.Tape.{Tape, now}
 use Rattle.vx_layout.specs.LogForms.{head_sector}
 use Rattle.vx_layout.specs.Supers.{super_bytes}
 use Rattle.vx_layout.specs.declared.superblock.Super.{Super}
-use Rattle.vx_log.specs.Ends.{IsEnds}
-use Rattle.vx_model.specs.Replays.{ReplaysAs}
-use Rattle.vx_model.specs.State.{State}
-use Rattle.vx_load.specs.Loads.{HoldsState, IsLoaded, IsRefused}
+use Rattle.vx_load.specs.Loads.{IsLoaded, IsRefused}
 use Rattle.vx_load.specs.declared.loading.Loaded.{Loaded}
 use Rattle.vx_load.specs.declared.refusal.LoadRefusal.{LoadRefusal}
 use Rattle.vx_load.specs.declared.refusal.LoadRefusal.TheVariants as load
-use Rattle.vx_replay.specs.ImageChecks.{CanMount}
 use Rattle.vx_replay.specs.LogReads.{IsRead, Shows}
 use Rattle.vx_replay.specs.declared.image_check.CheckRefusal.TheVariants as check
-use Rattle.vx_replay.specs.declared.image_check.CleanFront.{CleanFront}
 use Rattle.vx_stage.specs.Kernels.{IsLeftAs, IsMounted, clean_super}
 use Rattle.vx_run.specs.Ends.{HasEnded, IsAsked, IsFoundState, Setting, refused, start_of_load}
 use Rattle.vx_run.specs.declared.words.Verb.TheVariants as verb

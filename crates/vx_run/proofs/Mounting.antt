@@ -1,6 +1,6 @@
 -- What a core asks of its mount, by what the mount says of itself.
-use Rattle.std.proofs.Common.{◌≡◌, ◌≢◌, ◌⊎◌, ℕ, ◌+◌, ◌-◌, ◌<◌, ◌≤◌, Bool, true, false, List, [], ◌∷◌, ◌++◌, length, length-append, append-nil, Option, Some, None, Result, Ok, Err, refl, sym, ◌∙◌, ap, subst, inl, inr, arith, if◌then◌else◌}
-use Rattle.std.specs.Prelude.{vec_len, vec_capacity, slice_get, IsSome, IfOk, OnOk, OnErr}
+use Rattle.std.proofs.Common.{◌≡◌, ℕ, ◌+◌, ◌<◌, ◌≤◌, Bool, true, false, List, [], ◌∷◌, ◌++◌, length, length-append, append-nil, Option, Some, None, Result, Ok, Err, refl, sym, ◌∙◌, ap, subst, inl, inr, arith, if◌then◌else◌}
+use Rattle.std.specs.Prelude.{vec_capacity, slice_get, IsSome, IfOk, OnOk, OnErr}
 use Rattle.std.specs.FinMap as map
 use Rattle.std.proofs.Common.{Vec, Global}
 use Rattle.vx_base.specs.declared.call.Call.{Call}

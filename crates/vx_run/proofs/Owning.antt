@@ -1,5 +1,5 @@
 -- Where no file has bytes, an image replays as the state's own tree.
-use Rattle.std.proofs.Common.{◌≡◌, ◌≤◌, ℕ, List, Option, Some, None, subst}
+use Rattle.std.proofs.Common.{◌≡◌, ℕ, List, Option, Some, None, subst}
 use Rattle.std.specs.Prelude.{IfSome}
 use Rattle.vx_dev.specs.Moments.{Told, Always}
 use Rattle.vx_dev.specs.Tape as dev

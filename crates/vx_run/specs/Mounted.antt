@@ -1,5 +1,5 @@
 -- A mount with its device, as a core sees it.
-use Rattle.std.specs.Prelude.{◌≡◌, ◌-◌, ◌≤◌, ◌<◌, ◌^◌, ℕ, Bool, true, false, List, [], length, vec_capacity, None, IsNone}
+use Rattle.std.specs.Prelude.{◌≡◌, ◌-◌, ◌≤◌, ◌<◌, ◌^◌, ℕ, Bool, true, false, [], length, vec_capacity, None, IsNone}
 use Rattle.vx_base.specs.declared.call.Call.{Call}
 use Rattle.vx_dev.specs.Moments.{Told}
 use Rattle.vx_dev.specs.Tape as dev

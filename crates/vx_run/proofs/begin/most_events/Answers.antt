@@ -1,4 +1,4 @@
-use Rattle.std.proofs.Common.{◌≡◌, ℕ, ◌+◌, ◌*◌, ◌≤◌, ◌<◌, arith}
+use Rattle.std.proofs.Common.{arith}
 use Rattle.vx_run.proofs.Scripts.{few_sessions, short_lines, all_lines}
 use Rattle.vx_run.proofs.begin.most_events.Goals as goal
 

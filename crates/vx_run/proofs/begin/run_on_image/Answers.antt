@@ -1,9 +1,9 @@
-use Rattle.std.proofs.Common.{◌≡◌, ℕ, ◌+◌, ◌<◌, ◌≤◌, List, [], length, None, Some, refl, sym, ◌∙◌, ap, subst, inr, arith}
+use Rattle.std.proofs.Common.{◌≡◌, ◌+◌, ◌<◌, [], length, None, refl, sym, ◌∙◌, ap, subst, inr, arith}
 use Rattle.vx_dev.specs.Moments.{Told, Always}
 use Rattle.vx_dev.specs.Tape as dev
 use Rattle.vx_dev.specs.Tape.{Tape, now}
 use Rattle.vx_log.specs.Logs.{LogView}
-use Rattle.vx_model.specs.Legal.{World, opening}
+use Rattle.vx_model.specs.Legal.{opening}
 use Rattle.vx_model.specs.Replays.{ReplaysAs}
 use Rattle.vx_mount.specs.Views.{CoreView}
 use Rattle.vx_replay.specs.LogReads.{IsRead, Shows}
@@ -11,7 +11,7 @@ use Rattle.vx_load.specs.Loads.{IsRefused}
 use Rattle.vx_script.specs.declared.start.StartRefusal.{StartRefusal}
 use Rattle.vx_stage.specs.Kernels.{IsLeftAs, IsLive}
 use Rattle.vx_stage.specs.declared.kernel.Kernel.{Kernel}
-use Rattle.vx_run.specs.Ends.{HasEnded, IsAsked, IsFoundState, IsMarked, Setting, begun_view, first_of, refused}
+use Rattle.vx_run.specs.Ends.{HasEnded, IsAsked, IsFoundState, IsMarked, begun_view, first_of, refused}
 use Rattle.vx_run.specs.Mounted.{BeginsIn}
 use Rattle.vx_run.specs.declared.words.Asked.{Asked}
 use Rattle.vx_run.specs.declared.words.Verb.TheVariants as verb
@@ -103,7 +103,7 @@ returns-clause-ended g c = λ s faults same asks.
       live = live;
       fit = made.fit;
       meta = is.meta;
-        plain = (let well = is.is.well_formed in well.plain);
+      plain = (let well = is.is.well_formed in well.plain);
       nothing_waits = is.is.nothing_waits;
       first = ap (λ (x : Kernel). x.first) made.same;
     } in

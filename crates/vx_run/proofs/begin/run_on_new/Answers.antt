@@ -1,11 +1,9 @@
-use Rattle.std.proofs.Common.{◌≡◌, ℕ, ◌+◌, ◌≤◌, List, [], None, refl, sym, ◌∙◌, ap, subst, arith}
-use Rattle.vx_base.specs.declared.call.Call.{Call}
+use Rattle.std.proofs.Common.{◌≡◌, ◌+◌, ◌≤◌, [], None, refl, sym, ◌∙◌, ap, subst, arith}
 use Rattle.vx_dev.specs.Tape as dev
-use Rattle.vx_model.specs.Legal.{World, opening}
+use Rattle.vx_model.specs.Legal.{opening}
 use Rattle.vx_model.specs.State.{directory_blocks, fresh_of}
 use Rattle.vx_mount.specs.Views.{CoreView}
 use Rattle.vx_stage.specs.declared.kernel.Kernel.{Kernel}
-use Rattle.vx_txn.specs.declared.meta.Meta.{Meta}
 use Rattle.vx_run.specs.Ends.{beginning, begun_view, first_of, new_super}
 use Rattle.vx_run.specs.Mounted.{BeginsIn}
 use Rattle.vx_run.specs.declared.words.Asked.{Asked}
@@ -44,7 +42,7 @@ returns-clause-ended g c = λ s faults same asks.
       live = c.in-Ok-new_mount.ensures.live;
       fit = c.in-Ok-new_mount.ensures.fit;
       meta = c.in-Ok.ensures.meta d0.size;
-        plain = c.fresh_reads.ensures.plain new_super directory_blocks d0.size;
+      plain = c.fresh_reads.ensures.plain new_super directory_blocks d0.size;
       nothing_waits = λ b. refl;
       first = ap (λ (x : Kernel). x.first) c.in-Ok-new_mount.ensures.same;
     } in

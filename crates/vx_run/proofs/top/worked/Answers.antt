@@ -1,4 +1,4 @@
-use Rattle.std.proofs.Common.{◌≡◌, ℕ, List, map, refl, subst}
+use Rattle.std.proofs.Common.{map, refl, subst}
 use Rattle.std.specs.String.{string_bytes}
 use Rattle.vx_run.specs.Ends.{Setting, Asks}
 use Rattle.vx_run.specs.declared.words.Verb.{Verb}

@@ -1,10 +1,7 @@
-use Rattle.std.proofs.Common.{◌≡◌, ℕ, ◌+◌, ◌*◌, ◌-◌, ◌≤◌, ◌<◌, ◌^◌, Bool, true, false, not, ◌&&◌, List, [], length, None, is_some, refl, sym, ◌∙◌, ap, subst, arith}
-use Rattle.std.specs.Prelude.{vec_capacity}
-use Rattle.vx_base.specs.declared.call.Call.{Call}
+use Rattle.std.proofs.Common.{◌≡◌, ◌*◌, ◌≤◌, ◌<◌, ◌^◌, not, ◌&&◌, [], None, is_some, refl, sym, ◌∙◌, ap, subst, arith}
 use Rattle.vx_dev.specs.Moments.{Told, Always}
-use Rattle.vx_dev.specs.Tape as dev
 use Rattle.vx_model.specs.Allowed.{IsAllowed}
-use Rattle.vx_model.specs.Legal.{World, after_all}
+use Rattle.vx_model.specs.Legal.{after_all}
 use Rattle.vx_mount.specs.Cores.{Opening, IsDriven}
 use Rattle.vx_mount.specs.Runs.{TakesLines, AnswersLines}
 use Rattle.vx_mount.specs.Sessions.{is_stopped}
@@ -13,7 +10,7 @@ use Rattle.vx_core.specs.Facts as core
 use Rattle.vx_stage.specs.declared.kernel.Kernel.{Kernel}
 use Rattle.vx_calls.specs.declared.mount.Mount.{Mount}
 use Rattle.vx_calls.specs.Mounts.{IsAt}
-use Rattle.vx_calls.specs.Potentials.{debt, promised}
+use Rattle.vx_calls.specs.Potentials.{debt}
 use Rattle.vx_run.specs.Ends.{schedule_of}
 use Rattle.vx_run.specs.Mounted.{Keeps, view_of}
 use Rattle.vx_run.proofs.Scripts.{core_script, all_lines}

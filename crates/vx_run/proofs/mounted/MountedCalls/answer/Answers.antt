@@ -1,4 +1,4 @@
-use Rattle.std.proofs.Common.{◌≡◌, ◌<◌, ◌≤◌, ◌+◌, true, false, Some, None, refl, sym, ap, subst, ◌∙◌, arith}
+use Rattle.std.proofs.Common.{ap, arith}
 use Rattle.vx_base.specs.declared.event.Event.TheVariants as event
 use Rattle.vx_run.proofs.Mounting.{used, not_busy, has_room, may_answer, keeps, phase_ret, promised_one}
 use Rattle.vx_run.proofs.mounted.MountedCalls.answer.Goals as goal

@@ -1,4 +1,4 @@
-use Rattle.std.proofs.Common.{◌≡◌, ◌<◌, ◌≤◌, ◌+◌, true, false, Some, None, refl, sym, ap, subst, ◌∙◌, arith}
+use Rattle.std.proofs.Common.{◌+◌, arith}
 use Rattle.vx_base.specs.declared.event.Event.TheVariants as event
 use Rattle.vx_run.proofs.Mounting.{used, not_busy, has_room, built_line, keeps, phase_do, phase_released, not_left}
 use Rattle.vx_run.proofs.mounted.MountedCalls.perform.Goals as goal

@@ -1,5 +1,4 @@
-use Rattle.std.proofs.Common.{◌≡◌, ◌<◌, ◌≤◌, ◌+◌, true, false, Some, None, refl, sym, ap, subst, ◌∙◌, arith}
-use Rattle.vx_base.specs.declared.event.Event.TheVariants as event
+use Rattle.std.proofs.Common.{arith}
 use Rattle.vx_run.proofs.Mounting.{used, has_room, keeps, phase_released, not_left}
 use Rattle.vx_run.proofs.mounted.MountedCalls.reach.Goals as goal
 

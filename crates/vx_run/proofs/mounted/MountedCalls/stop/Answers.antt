@@ -1,4 +1,4 @@
-use Rattle.std.proofs.Common.{◌≡◌, ◌<◌, ◌≤◌, ◌+◌, true, false, Some, None, refl, sym, ap, subst, ◌∙◌, arith}
+use Rattle.std.proofs.Common.{ap, arith}
 use Rattle.vx_base.specs.declared.event.Event.TheVariants as event
 use Rattle.vx_run.proofs.Mounting.{keeps, phase_stopped, promised_one}
 use Rattle.vx_run.proofs.mounted.MountedCalls.stop.Goals as goal
