@@ -8,4 +8,5 @@ pub mod Placing
 pub mod Releases
 pub mod RunLists
 pub mod SameRuns
+pub mod UsedBits
 pub mod Units

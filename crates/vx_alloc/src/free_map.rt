@@ -1,5 +1,5 @@
 //! The map of free blocks, unit by unit.
-ghost use Rattle.std.specs.Prelude.{◌≡◌, ◌+◌, ◌-◌, ◌*◌, ◌/◌, ◌%◌, ◌<◌, ◌≤◌, ◌^◌, ℕ, true, false, IsTrue, IfOk, IfSome, IfNone, OnOk, OnErr, max, Some, None, is_some, nat_le, ◌++◌, replicate, vec_len, vec_capacity, length, ◌||◌, slice_index_or, slice_set};
+ghost use Rattle.std.specs.Prelude.{◌≡◌, ◌+◌, ◌-◌, ◌*◌, ◌/◌, ◌%◌, ◌<◌, ◌≤◌, ◌^◌, ℕ, true, false, IsTrue, IfOk, IfSome, IfNone, OnOk, OnErr, max, Some, None, is_some, nat_le, nat_lt, get_or, not, ◌&&◌, ◌++◌, replicate, vec_len, vec_capacity, length, ◌||◌, slice_index_or, slice_set};
 ghost use Rattle.std.specs.List.{count_by};
 ghost use Rattle.vx_alloc.specs.RunIndexes.{covers, is_unit_data, limit_of};
 ghost use Rattle.vx_alloc.specs.FreeMaps.{IsFreeRun, IsLowestRun, HasNoRun, IsAtLongest, IsStart, IsPlaced, can_follow, unit_of, without_run, cleared, is_before, free_with, still_pending, released, IsLongest, IsLowestAligned, HasNoAligned, is_data, is_free, is_at_or_past, is_used, free_blocks, all_free, grown, shrunk, IsUnusedFrom, data_bits, with_bit, with_place};
@@ -165,6 +165,18 @@ impl FreeMap {
         }
         let offset = (b.get() - self.first) as usize;
         !self.free[offset] && self.pending[offset].is_none()
+    }
+
+    /// Of each block of a unit, whether it is used or holds no data, as the unit's bitmap says it.
+    pub fn used_in(&self, unit: u32) -> [bool; 4096]
+        requires { unit < self.now.units }
+        ensures { (j : ℕ) → j < 4096 → get_or result j false ≡ (nat_lt j (4096 - self.now.per_unit) || is_used self.now (self.now.first + 4096 * unit + j)) }
+    {
+        let _blocks = self.blocks();
+        let start = (UNIT_BLOCKS * unit) as usize;
+        let end = start + UNIT_BLOCKS as usize;
+        let lead = (UNIT_BLOCKS - self.per_unit) as usize;
+        used_bits(&self.free[start..end], &self.pending[start..end], lead)
     }
 
     /// How many blocks are free and not barred.
@@ -504,6 +516,20 @@ fn add_units(runs: &mut RunIndex, per_unit: u32, from: u32, to: u32)
     for unit in from..to {
         runs.add(UNIT_BLOCKS * unit + (UNIT_BLOCKS - per_unit), per_unit);
     }
+}
+
+// Of each block of a unit, by its flags, whether it is in use; the first ones hold no data.
+fn used_bits(free: &[bool], pending: &[Option<u64>], lead: usize) -> [bool; 4096]
+    requires free { length free.now ≡ 4096 }
+    requires pending { length pending.now ≡ 4096 }
+    requires lead { lead ≤ 4096 }
+    ensures { (j : ℕ) → j < 4096 → get_or result j false ≡ (nat_lt j lead || (not (get_or free.now j false) && not (is_some (get_or pending.now j None)))) }
+{
+    let mut used = [true; 4096];
+    for j in lead..4096 {
+        used[j] = !free[j] && pending[j].is_none();
+    }
+    used
 }
 
 /// How many bits are set.

@@ -17,7 +17,7 @@ use Rattle.vx_model.specs.State.{State}
 use Rattle.vx_model.specs.Legal.{IfThere}
 use Rattle.vx_model.specs.Walks.{root, as_file, as_directory, file_at, directory_at, step_to, walk}
 use Rattle.vx_model.specs.Edits.{with_nodes, with_name, add_name, add_name_in, remove_name, remove_name_in, without_name}
-use Rattle.vx_model.specs.LaidOut.{IsHeld, HasNothing, IsNodeOf, IsPlainFile, IsDirectoryNode, IsLaidOut}
+use Rattle.vx_model.specs.LaidOut.{IsHeld, IsNodeOf, IsDirectoryNode, IsLaidOut}
 use Rattle.std.specs.Prelude.{IsTrue, is_some, IfOk}
 use Rattle.std.specs.Option.{option_map}
 use Rattle.vx_base.specs.declared.refusal.Refusal.{Refusal}

@@ -1,8 +1,8 @@
 -- What the sectors of inodes and of bitmaps have.
-use Rattle.std.proofs.Common.{◌≡◌, ◌≢◌, ℕ, zero, suc, ◌+◌, ◌*◌, ◌/◌, ◌<◌, ◌≤◌, Bool, true, false, List, ◌∷◌, ◌++◌, length, set, get_or, length-set, get_or-set_same, get_or-set_other, Option, Some, None, refl, sym, ap, subst, ◌∙◌, arith, inl, inr}
+use Rattle.std.proofs.Common.{◌≡◌, ℕ, zero, suc, ◌+◌, ◌*◌, ◌/◌, ◌<◌, ◌≤◌, Bool, List, ◌∷◌, ◌++◌, Option, Some, None, refl, sym, ap, subst, ◌∙◌, arith, inl, inr}
 use Rattle.std.specs.Prelude.{◌||◌, nat_lt, is_some}
 use Rattle.std.specs.Option.{option_map}
-use Rattle.std.proofs.lemmas.Bool.{lt-ltb, le-ltb, cases_lt}
+use Rattle.std.proofs.lemmas.Bool.{lt-ltb, cases_lt}
 use Rattle.vx_layout.specs.Bits.{bit_value, bit_byte, bits_from, bits_bytes}
 use Rattle.vx_layout.specs.Inodes.{slot_bytes}
 use Rattle.vx_layout.specs.Places.{Volume, IsVolume, unit_block, bitmap_sector, pair_sector, inode_sector}
@@ -10,9 +10,7 @@ use Rattle.vx_model.specs.Contents.{inode_value, parsed_of}
 use Rattle.vx_model.specs.Images.{Parsed, content_at}
 use Rattle.vx_model.specs.Layout.{Layout, Claim, volume, claim_of}
 use Rattle.vx_model.specs.State.{State}
-use Rattle.vx_txn.specs.Metas.{Stands}
 use Rattle.vx_txn.specs.Staged.{IsRight, is_in_use}
-use Rattle.vx_txn.specs.declared.meta.Meta.{Meta}
 
 -- ---- the volume
 
@@ -56,11 +54,12 @@ pub sector_same : (f g : ℕ → Bool) → ((j : ℕ) → j < 4096 → f j ≡ g
 unfolding bits_bytes
 sector_same f g same = bytes_same f g 512 0 (λ j lt. same j (omega arith))
 
-low_bit : (j : ℕ) (b : Bool) → j < 33 → true ≡ (nat_lt j 33 || b)
-low_bit j b lt = ap (λ t. t || b) (sym (lt-ltb j 33 lt))
-
-high_bit : (j : ℕ) (o : Option Claim) → 33 ≤ j → is_some o ≡ (nat_lt j 33 || is_some o)
-high_bit j o le = ap (λ t. t || is_some o) (sym (le-ltb j 33 le))
+-- blocks below the data count as used, whatever else is said of them
+pub bit_same : (j : ℕ) (a b : Bool) → (33 ≤ j → a ≡ b) → (nat_lt j 33 || a) ≡ (nat_lt j 33 || b)
+bit_same j a b high = elim (cases_lt j 33) [
+  | inl low ↦ ap (λ (t : Bool). t || a) (lt-ltb j 33 low) ∙ sym (ap (λ (t : Bool). t || b) (lt-ltb j 33 low))
+  | inr le ↦ ap (λ (t : Bool). nat_lt j 33 || t) (high le)
+]
 
 same_use : (l : Layout) (u j : ℕ) (o : Option Claim) → (nat_lt j 33 || is_some o) ≡ (nat_lt j 33 || is_some (option_map (λ (c : Claim). c.ino) o))
 same_use l u j None = refl
@@ -71,35 +70,3 @@ pub bitmap_right : (s : State) (unit at : ℕ) (x : List ℕ) → content_at (vo
 bitmap_right s unit at x content place bytes =
     subst (λ (t : ℕ). IsRight s (t, x)) (sym place)
     (content ∙ ap Some (sector_same _ _ (λ j lt. sym (same_use s.layout unit j (claim_of s.layout (unit_block (volume s.layout) unit + j)))) ∙ sym bytes))
-
--- the bits of the first `end` blocks of the unit that starts at a block
-pub record AreBits (m : Meta) (start end : ℕ) (bits : List Bool) : Type 0 where
-  pub len : length bits ≡ 4096
-  pub low : (j : ℕ) → j < 33 → get_or bits j false ≡ true
-  pub claimed : (s : State) → Stands m s → (j : ℕ) → 33 ≤ j → j < end → get_or bits j false ≡ is_some (claim_of s.layout (start + j))
-
-pub bit_more : (m : Meta) (start j : ℕ) (bits : List Bool) (b : Bool) → AreBits m start j bits → 33 ≤ j → j < 4096 → ((s : State) → Stands m s → b ≡ is_some (claim_of s.layout (start + j)))
-    → AreBits m start (j + 1) (set bits j b)
-bit_more m start j bits b are high lt is = record {
-  len = length-set bits j b ∙ are.len;
-  low = λ k low. (let other : k ≢ j = omega (arith, low, high) in get_or-set_other bits j k b false other ∙ are.low k low);
-  claimed = λ s stands k le below. elim (cases_lt k j) [
-    | inl earlier ↦ (let other : k ≢ j = omega (arith, earlier) in get_or-set_other bits j k b false other ∙ are.claimed s stands k le earlier)
-    | inr last ↦
-        let same : j ≡ k = omega (arith, last, below) in
-        subst (λ (i : ℕ). get_or (set bits j b) i false ≡ is_some (claim_of s.layout (start + i))) same
-        (get_or-set_same bits j b false (omega (arith, are.len, lt)) ∙ is s stands)
-  ];
-}
-
-pub bits_are : (m : Meta) (s : State) (unit start end : ℕ) (bits : List Bool) → Stands m s → start ≡ unit_block (volume s.layout) unit → end ≡ 4096 → AreBits m start end bits
-    → bits_bytes (λ j. get_or bits j false) ≡ bits_bytes (is_in_use s.layout unit)
-bits_are m s unit start end bits stands at last are =
-    let v : Volume = volume s.layout in
-    sector_same (λ j. get_or bits j false) (is_in_use s.layout unit) (λ j lt. elim (cases_lt j 33) [
-      | inr high ↦
-          are.claimed s stands j high (omega (arith, lt, last))
-          ∙ ap (λ (b : ℕ). is_some (claim_of s.layout (b + j))) at
-          ∙ high_bit j (claim_of s.layout (unit_block v unit + j)) high
-      | inl low ↦ are.low j low ∙ low_bit j (is_some (claim_of s.layout (unit_block v unit + j))) low
-    ])

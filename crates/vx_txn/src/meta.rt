@@ -144,15 +144,6 @@ impl Meta {
     {
         directory_at(self.directories.as_slice(), ino)
     }
-
-    /// Whether an inode has a data block.
-    pub fn is_claimed(&self, b: Block) -> bool
-        ensures { (s : State) → IsLaidOut s → IsPlain s → IsStateOf self.now s → IsTrue (is_data (volume s.layout) b) → result ≡ is_some (claim_of s.layout b) }
-    {
-        claims();
-        plain_states();
-        self.free.is_used(b)
-    }
 }
 
 /// The inode of an empty root.

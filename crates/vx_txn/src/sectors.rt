@@ -25,10 +25,7 @@ use vx_extents::ExtentMap;
 use vx_layout::{block_sector, places};
 use vx_log::Batch;
 use vx_model::images::{metadata, sector_contents};
-use vx_model::states::{claims, state_says};
-
-/// Blocks in a unit.
-const UNIT_BLOCKS: u32 = 4096;
+use vx_model::states::{claims, plain_states, state_says};
 
 /// Sectors in a unit.
 const UNIT_SECTORS: u32 = 8192;
@@ -38,9 +35,6 @@ const UNIT_INODES: u32 = 128;
 
 /// Sectors of a unit that have inodes.
 const INODE_SECTORS: u32 = 64;
-
-/// The first data block of a unit, counted from its start.
-const FIRST_DATA: usize = 33;
 
 /// Extents in an inode.
 const INODE_ROOM: usize = 6;
@@ -285,10 +279,7 @@ fn bitmap(meta: &Meta, unit: u32) -> [u8; 512]
     ensures { (s : State) → Stands meta.now s → result ≡ bits_bytes (is_in_use s.layout unit) }
 {
     places();
-    let first = meta.first.get() + UNIT_BLOCKS * unit;
-    let mut used = [true; 4096];
-    for j in FIRST_DATA..4096 {
-        used[j] = meta.is_claimed(Block::new(first + j as u32));
-    }
-    write_bits(&used)
+    claims();
+    plain_states();
+    write_bits(&meta.free.used_in(unit))
 }

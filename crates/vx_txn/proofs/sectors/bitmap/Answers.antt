@@ -1,29 +1,25 @@
-use Rattle.std.proofs.Common.{◌≡◌, ℕ, ◌+◌, ◌*◌, true, false, ap, sym, subst, ◌∙◌, arith}
-use Rattle.std.proofs.lemmas.List.{get_or-replicate}
-use Rattle.std.specs.Prelude.{is_some, IsTrue}
+use Rattle.std.proofs.Common.{◌≡◌, ℕ, ◌+◌, ◌-◌, ◌*◌, false, get_or, ap, sym, ◌∙◌, arith}
+use Rattle.std.specs.Prelude.{◌||◌, is_some, IsTrue, nat_lt}
+use Rattle.vx_alloc.specs.FreeMaps.{is_used}
 use Rattle.vx_layout.specs.Places.{Volume, unit_block, is_data}
 use Rattle.vx_model.specs.Layout.{volume, claim_of}
-use Rattle.vx_txn.proofs.UnitSectors.{bit_more, bits_are}
+use Rattle.vx_txn.specs.Staged.{is_in_use}
+use Rattle.vx_txn.proofs.MetaLaws.{owned_used}
+use Rattle.vx_txn.proofs.UnitSectors.{bit_same, sector_same}
 use Rattle.vx_txn.proofs.sectors.bitmap.Goals as goal
 
-pub loop-j-init : goal.loop-j-init
-loop-j-init c = record {
-  len = cc;
-  low = λ j lt. get_or-replicate 4096 j true false (omega (arith, lt));
-  claimed = λ s stands j le lt. absurd (omega (arith, le, lt));
-}
-
-pub loop-j-preserved : goal.loop-j-preserved
-loop-j-preserved c =
-    bit_more c.args.meta.now (c.get.result + 4096 * c.args.unit) c.loop-j.j c.loop-j.used c.is_claimed.result c.loop-j.invariant c.loop-j.auto.j (c.loop-j-test.true) (λ s stands.
-    let v : Volume = volume s.layout in
-    let at : c.new.result ≡ unit_block v c.args.unit + c.loop-j.j = omega (arith, c.new.ensures, c.get.ensures, stands.is.first) in
-    c.is_claimed.ensures s stands.laid_out stands.plain stands.is
-    (subst (λ (b : ℕ). IsTrue (is_data v b)) (sym at) (c.places.ensures.data_blocks v c.args.unit c.loop-j.j (omega (arith, c.requires.inside, stands.is.units)) c.loop-j-test.true c.loop-j.auto.j))
-    ∙ ap (λ (b : ℕ). is_some (claim_of s.layout b)) c.new.ensures)
+pub used_in-requires : goal.used_in-requires
+used_in-requires c = let s = c.requires.sound in omega (arith, c.requires.inside, s.stands.is.free_units)
 
 pub returns : goal.returns
 returns c = λ s stands.
-    c.write_bits.ensures
-    ∙ bits_are c.args.meta.now s c.args.unit (c.get.result + 4096 * c.args.unit) c.loop-j.j c.loop-j.used stands
-    (omega (arith, c.get.ensures, stands.is.first)) (omega (arith, c.loop-j.auto.j-end, c.loop-j-test.false)) c.loop-j.invariant
+    let v : Volume = volume s.layout in
+    let m = c.args.meta.now in
+    let u = c.args.unit in
+    let lead : 4096 - m.free.per_unit ≡ 33 = omega (arith, stands.is.per_unit) in
+    let start : (j : ℕ) → m.free.first + 4096 * u + j ≡ unit_block v u + j = (λ j. omega (arith, stands.is.free_first, stands.is.first)) in
+    c.write_bits.ensures ∙ sector_same (λ j. get_or c.used_in.result j false) (is_in_use s.layout u) (λ j lt.
+    c.used_in.ensures j lt ∙ ap (λ (k : ℕ). nat_lt j k || is_used m.free (m.free.first + 4096 * u + j)) lead ∙ ap (λ (b : ℕ). nat_lt j 33 || is_used m.free b) (start j)
+    ∙ bit_same j (is_used m.free (unit_block v u + j)) (is_some (claim_of s.layout (unit_block v u + j))) (λ high.
+    let within : IsTrue (is_data v (unit_block v u + j)) = c.places.ensures.data_blocks v u j (omega (arith, c.requires.inside, stands.is.units)) lt high in
+    owned_used m s stands (unit_block v u + j) within ∙ sym (c.claims.ensures.owned s (unit_block v u + j) stands.laid_out (c.plain_states.ensures.on_device s stands.laid_out stands.plain))))
