@@ -10,7 +10,7 @@ use Rattle.vx_dev.specs.Tape.{State as Device}
 use Rattle.vx_model.specs.Legal.{World, IfThere, after_all, is_any_time, is_fault, is_no_space, state_after_step}
 use Rattle.vx_model.specs.Removing.{fine}
 use Rattle.vx_model.specs.State.{State, Done}
-use Rattle.vx_model.specs.Step.{has_step, is_for_mount, step}
+use Rattle.vx_model.specs.Step.{is_of_names, is_for_mount, step}
 use Rattle.vx_model.specs.Touching.{Touched, IsTouched, untouched}
 use Rattle.vx_stage.specs.Growths.{called_state}
 use Rattle.vx_stage.specs.Kernels.{present}
@@ -24,7 +24,7 @@ use Rattle.vx_calls.specs.Mounts.{IsAt}
 use Rattle.vx_calls.specs.declared.mount.Mount.{Mount}
 
 -- a call that is built has a step
-there : (s : State) (place session : ℕ) (c : Call) (Q : Done → Type 0) → has_step c ≡ true → ((done : Done) → Q done) → IfThere (step s place session c) Q
+there : (s : State) (place session : ℕ) (c : Call) (Q : Done → Type 0) → is_of_names c ≡ true → ((done : Done) → Q done) → IfThere (step s place session c) Q
 there s place session (call.Create path mode) Q built all = all _
 there s place session (call.Mkdir path mode) Q built all = all _
 there s place session (call.Unlink path) Q built all = all _
@@ -91,7 +91,7 @@ module _ (o : World) (d : Device) (m : Mount) (at : IsAt o d m) (c : Call) where
   }
 
   -- a refusal that may come at any time
-  pub refused_replied : (why : Refusal) → has_step c ≡ true → is_any_time why ≡ true → HasReplied o d m c (say.Refused why)
+  pub refused_replied : (why : Refusal) → is_of_names c ≡ true → is_any_time why ≡ true → HasReplied o d m c (say.Refused why)
   refused_replied why built any_time = still (say.Refused why)
       (λ session. there (present o m.kernel) (length m.kernel.history.items) session c (λ done. (say.Refused why ≡ done.reply) ⊎ (is_fault (say.Refused why) ≡ true)) built (λ done. inr any_time))
       (λ session. after_fault o m.kernel session c (say.Refused why) any_time) (not_space why any_time)
@@ -123,21 +123,22 @@ sound_is_no_fault : (reply : Reply) → IsSoundReply reply → is_fault reply �
 sound_is_no_fault (say.Refused why) h = h
 sound_is_no_fault _ h = refl
 
-same_session : (s : State) (place session : ℕ) (c : Call) → step s place session c ≡ step s place 0 c
-same_session s place session (call.Create path mode) = refl
-same_session s place session (call.Mkdir path mode) = refl
-same_session s place session (call.Unlink path) = refl
-same_session s place session (call.Rmdir path) = refl
-same_session s place session (call.Link old new) = refl
-same_session s place session (call.Rename old new) = refl
-same_session s place session (call.Chmod path mode) = refl
-same_session s place session (call.Stat path) = refl
-same_session s place session (call.List path) = refl
-same_session s place session call.Sync = refl
-same_session s place session call.Tick = refl
-same_session s place session (call.After other lines) = refl
-same_session s place session call.Stop = refl
-same_session s place session _ = refl
+-- a call of names is the same, whatever session it is of
+same_session : (s : State) (place session : ℕ) (c : Call) → is_of_names c ≡ true → step s place session c ≡ step s place 0 c
+same_session s place session (call.Create path mode) built = refl
+same_session s place session (call.Mkdir path mode) built = refl
+same_session s place session (call.Unlink path) built = refl
+same_session s place session (call.Rmdir path) built = refl
+same_session s place session (call.Link old new) built = refl
+same_session s place session (call.Rename old new) built = refl
+same_session s place session (call.Chmod path mode) built = refl
+same_session s place session (call.Stat path) built = refl
+same_session s place session (call.List path) built = refl
+same_session s place session call.Sync built = refl
+same_session s place session call.Tick built = refl
+same_session s place session (call.After other lines) built = refl
+same_session s place session call.Stop built = refl
+same_session s place session _ built = absurd cc
 
 module _ (o : World) (d : Device) (m : Mount) (at : IsAt o d m) (c : Call) (reply : Reply) (meta : Meta) (t : Touched) where
   abbrev s : State
@@ -154,8 +155,8 @@ module _ (o : World) (d : Device) (m : Mount) (at : IsAt o d m) (c : Call) (repl
   ran_of (Some done) e h = (done, (e, h))
 
   -- a call that ran and is answered so
-  pub done_replied : Ran → IsSoundReply reply → IsFew t → length m.kernel.gathered ≤ 144 → (is_no_space reply ≡ true → (b : ℕ) → s.layout.pending b ≡ None) → HasReplied o d (record m { meta = meta; touched = t }) c reply
-  done_replied ran sound few place_is released = record {
+  pub done_replied : is_of_names c ≡ true → Ran → IsSoundReply reply → IsFew t → length m.kernel.gathered ≤ 144 → (is_no_space reply ≡ true → (b : ℕ) → s.layout.pending b ≡ None) → HasReplied o d (record m { meta = meta; touched = t }) c reply
+  done_replied built ran sound few place_is released = record {
     run = at.run;
     live = at.live;
     fit = at.fit;
@@ -167,8 +168,8 @@ module _ (o : World) (d : Device) (m : Mount) (at : IsAt o d m) (c : Call) (repl
     meta = ran.1.1.gone.state;
     laid_out = ran.1.1.gone.laid_out;
     plain = ran.1.1.gone.plain;
-    reply_is = λ session. subst (λ (x : Option Done). IfThere x (λ done. (reply ≡ done.reply) ⊎ (is_fault reply ≡ true))) (sym (same_session s place session c ∙ ran.1.0)) (inl ran.1.1.reply_is);
-    state_is = λ session. after_reply o m.kernel session c reply ran.0 (sound_is_no_fault reply sound) at.run.next (same_session s place session c ∙ ran.1.0);
+    reply_is = λ session. subst (λ (x : Option Done). IfThere x (λ done. (reply ≡ done.reply) ⊎ (is_fault reply ≡ true))) (sym (same_session s place session c built ∙ ran.1.0)) (inl ran.1.1.reply_is);
+    state_is = λ session. after_reply o m.kernel session c reply ran.0 (sound_is_no_fault reply sound) at.run.next (same_session s place session c built ∙ ran.1.0);
     touched = ran.1.1.gone.touched;
     few = few;
     place = inr place_is;

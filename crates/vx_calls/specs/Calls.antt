@@ -15,7 +15,7 @@ use Rattle.vx_model.specs.Allowed.{has_front}
 use Rattle.vx_model.specs.LaidOut.{IsLaidOut, IsPlain}
 use Rattle.vx_model.specs.Legal.{World, IfThere, unmounted, after_all, is_fault, is_no_space}
 use Rattle.vx_model.specs.State.{State}
-use Rattle.vx_model.specs.Step.{step, has_step}
+use Rattle.vx_model.specs.Step.{step, is_of_names}
 use Rattle.vx_model.specs.Touching.{Touched, IsTouched, untouched}
 use Rattle.vx_stage.specs.Growths.{called_state}
 use Rattle.vx_stage.specs.Kernels.{IsFit, HasRun, IsLive, present}
@@ -32,7 +32,7 @@ use Rattle.vx_calls.specs.Mounts.{IsAt, Released}
 -- the session has such a line, and it is one that can be done
 abbrev pub IsBuilt : Option Call → Type 0
 IsBuilt None = ⊥
-IsBuilt (Some c) = (has_step c ≡ true) × HasMode c
+IsBuilt (Some c) = (is_of_names c ≡ true) × HasMode c
 
 -- ---- whose fault it is
 

@@ -3,7 +3,7 @@ ghost use Rattle.std.specs.Prelude.{◌≡◌, ◌<◌, ◌≤◌, ◌+◌, [], 
 ghost use Rattle.vx_base.specs.declared.call.Call.{Call};
 ghost use Rattle.vx_base.specs.declared.reply.Reply.TheVariants.{Refused};
 ghost use Rattle.vx_model.specs.Legal.{World};
-ghost use Rattle.vx_model.specs.Step.{has_step};
+ghost use Rattle.vx_model.specs.Step.{is_of_names};
 ghost use Rattle.vx_stage.specs.Growths.{IsBusy, IsInUse};
 ghost use Rattle.vx_txn.specs.Calls.{HasMode};
 
@@ -44,7 +44,7 @@ impl Mount {
     pub fn ask<D: BlockDev>(&mut self, alloc: Global, dev: &mut D, call: &Call) -> Asked
         requires used { IsUsed (D.state dev.old) self.old }
         requires free { IsBusy self.old.kernel.job → ⊥ }
-        requires built { has_step call.now ≡ true }
+        requires built { is_of_names call.now ≡ true }
         requires mode { HasMode call.now }
         requires room { vec_len self.old.kernel.history < vec_capacity self.old.kernel.history }
         ensures asked { HasAsked (D.state dev.new) self.old self.new result }
@@ -75,7 +75,7 @@ impl Mount {
         requires used { IsUsed (D.state dev.old) self.old }
         requires free { IsBusy self.old.kernel.job → ⊥ }
         requires enabled { self.old.disabled ≡ None }
-        requires built { has_step call.now ≡ true }
+        requires built { is_of_names call.now ≡ true }
         requires mode { HasMode call.now }
         requires place { length self.old.kernel.gathered ≤ 144 }
         requires room { vec_len self.old.kernel.history < vec_capacity self.old.kernel.history }
@@ -113,7 +113,7 @@ impl Mount {
         requires some { 0 < length self.old.kernel.gathered }
         requires room { vec_len self.old.kernel.history < vec_capacity self.old.kernel.history }
         ensures asked { HasAsked (D.state dev.new) self.old self.new result }
-        ensures at { (o : World) → IsAt o (D.state dev.old) self.old → IsInUse o self.old.kernel → (c : Call) → has_step c ≡ true → IsAsked o (D.state dev.new) self.new c result }
+        ensures at { (o : World) → IsAt o (D.state dev.old) self.old → IsInUse o self.old.kernel → (c : Call) → is_of_names c ≡ true → IsAsked o (D.state dev.new) self.new c result }
         ensures free { IsBusy self.new.kernel.job → ⊥ }
         ensures capacity { vec_capacity self.old.kernel.history ≤ vec_capacity self.new.kernel.history }
         ensures few { (D.state dev.new).count ≤ (D.state dev.old).count + 8 }
@@ -138,7 +138,7 @@ impl Mount {
         requires waits { waits self.old.meta ≡ 1 }
         requires room { vec_len self.old.kernel.history < vec_capacity self.old.kernel.history }
         ensures asked { HasAsked (D.state dev.new) self.old self.new result }
-        ensures at { (o : World) → IsAt o (D.state dev.old) self.old → IsInUse o self.old.kernel → (c : Call) → has_step c ≡ true → IsAsked o (D.state dev.new) self.new c result }
+        ensures at { (o : World) → IsAt o (D.state dev.old) self.old → IsInUse o self.old.kernel → (c : Call) → is_of_names c ≡ true → IsAsked o (D.state dev.new) self.new c result }
         ensures free { IsBusy self.new.kernel.job → ⊥ }
         ensures capacity { vec_capacity self.old.kernel.history ≤ vec_capacity self.new.kernel.history }
         ensures few { (D.state dev.new).count ≤ (D.state dev.old).count + 8 }

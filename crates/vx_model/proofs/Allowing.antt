@@ -18,7 +18,8 @@ use Rattle.vx_model.specs.Shapes.{shape}
 use Rattle.vx_model.specs.Replays.{ReplaysAs}
 use Rattle.vx_model.specs.Allowed.{come_by, call_of, call_at, has_front, is_refusal, HoldsFront, IsAllowed}
 use Rattle.vx_model.specs.AllowedLaws.{IsPlaced, IsQuiet}
-use Rattle.vx_model.proofs.GivenUp.{step_waits}
+use Rattle.vx_model.proofs.StepWaits.{step_waits}
+use Rattle.vx_model.proofs.FileWaits.{settled_waits}
 use Rattle.vx_model.proofs.Histories.{kept_all}
 
 slice_get-front : {A : Type 0} (xs ys : List A) (i : ℕ) → i < length xs → slice_get (xs ++ ys) i ≡ slice_get xs i
@@ -111,7 +112,7 @@ later mode opening history events m image placed quiet is = record {
 pub device : (opening : World) (history : List Event) → (after_all opening history).state.layout.device_sectors ≡ opening.state.layout.device_sectors
 device opening history =
     kept_all (λ (s : State). s.layout.device_sectors ≡ opening.state.layout.device_sectors)
-    (λ s place session c done is stepped. (step_waits s place session c done stepped).same_device ∙ is) (λ s upto is. is) opening history refl
+    (λ s place session c done is stepped. (step_waits s place session c done stepped).same_device ∙ is) (λ s place ino is. (settled_waits s place ino).same_device ∙ is) (λ s upto is. is) opening history refl
 
 pub front : (mode : Logging) (opening : World) (history events : List Event) (m : ℕ) (image : ℕ → List ℕ) (s : State) → All (IsPlaced (length history)) history → AllByRecursion (IsQuiet m) events
     → length history ≤ come_by history m → (after_all opening history).state ≡ s → ReplaysAs s.layout.device_sectors image s.tree → IsAllowed mode opening (history ++ events) m image

@@ -29,6 +29,7 @@ use Rattle.vx_model.specs.Legal.{with_released}
 use Rattle.vx_model.specs.LaidOut.{HoldsData, named}
 use Rattle.vx_model.specs.Waiting.{IsNamed, Waits}
 use Rattle.vx_model.specs.Images.{among}
+use Rattle.vx_model.proofs.FileStep.{file_step}
 use Rattle.vx_model.proofs.Chains.{Always, bind_always, where_holds, then_always, ok_always}
 use Rattle.vx_model.proofs.NextBlock.{IsNext, next_is}
 use Rattle.vx_model.proofs.Numbers.{either, in_left, in_right}
@@ -318,21 +319,28 @@ module _ (s : State) (place : ℕ) where
   of_step : (done : Done) (m : Maybe Done) → Some (settled s m) ≡ Some done → Always m (DoneWaits place s) → Waits place s done.state
   of_step done m h w = let e : settled s m ≡ done = cc in subst (DoneWaits place s) e (settled_waits m w)
 
-  pub step_waits : (session : ℕ) (c : Call) (done : Done) → step s place session c ≡ Some done → Waits place s done.state
-  step_waits session (call.Create path mode) done h = of_step done (create s path mode) h (create_waits path mode)
-  step_waits session (call.Mkdir path mode) done h = of_step done (mkdir s path mode) h (mkdir_waits path mode)
-  step_waits session (call.Unlink path) done h = of_step done (unlink s place path) h (unlink_all path)
-  step_waits session (call.Rmdir path) done h = of_step done (rmdir s place path) h (rmdir_waits path)
-  step_waits session (call.Link old new) done h = of_step done (link s old new) h (link_all old new)
-  step_waits session (call.Rename old new) done h = of_step done (rename s place old new) h (rename_waits old new)
-  step_waits session (call.Chmod path mode) done h = of_step done (chmod s path mode) h (chmod_waits path mode)
-  step_waits session (call.Stat path) done h = of_step done (stat s path) h (stat_waits path)
-  step_waits session (call.List path) done h = of_step done (list s path) h (list_waits path)
-  step_waits session call.Sync done h = of_step done (Ok (fine s)) h (waits_same place s s refl)
-  step_waits session call.Tick done h = of_step done (Ok (fine s)) h (waits_same place s s refl)
-  step_waits session (call.After other lines) done h = of_step done (Ok (fine s)) h (waits_same place s s refl)
-  step_waits session call.Stop done h = of_step done (Ok (fine s)) h (waits_same place s s refl)
-  step_waits session _ done h = absurd cc
+  -- where those on files do
+  pub step_waits_by : ((session : ℕ) (c : Call) (done : Done) → file_step s place session c ≡ Some done → Waits place s done.state) → (session : ℕ) (c : Call) (done : Done) → step s place session c ≡ Some done → Waits place s done.state
+  step_waits_by files session (call.Create path mode) done h = of_step done (create s path mode) h (create_waits path mode)
+  step_waits_by files session (call.Mkdir path mode) done h = of_step done (mkdir s path mode) h (mkdir_waits path mode)
+  step_waits_by files session (call.Unlink path) done h = of_step done (unlink s place path) h (unlink_all path)
+  step_waits_by files session (call.Rmdir path) done h = of_step done (rmdir s place path) h (rmdir_waits path)
+  step_waits_by files session (call.Link old new) done h = of_step done (link s old new) h (link_all old new)
+  step_waits_by files session (call.Rename old new) done h = of_step done (rename s place old new) h (rename_waits old new)
+  step_waits_by files session (call.Chmod path mode) done h = of_step done (chmod s path mode) h (chmod_waits path mode)
+  step_waits_by files session (call.Stat path) done h = of_step done (stat s path) h (stat_waits path)
+  step_waits_by files session (call.List path) done h = of_step done (list s path) h (list_waits path)
+  step_waits_by files session (call.OpenFile handle path flag) done h = files session (call.OpenFile handle path flag) done h
+  step_waits_by files session (call.Close handle) done h = files session (call.Close handle) done h
+  step_waits_by files session (call.Read handle offset count) done h = files session (call.Read handle offset count) done h
+  step_waits_by files session (call.Write handle offset payload) done h = files session (call.Write handle offset payload) done h
+  step_waits_by files session (call.Truncate handle size) done h = files session (call.Truncate handle size) done h
+  step_waits_by files session (call.Fsync handle) done h = files session (call.Fsync handle) done h
+  step_waits_by files session call.Sync done h = of_step done (Ok (fine s)) h (waits_same place s s refl)
+  step_waits_by files session call.Tick done h = of_step done (Ok (fine s)) h (waits_same place s s refl)
+  step_waits_by files session (call.After other lines) done h = of_step done (Ok (fine s)) h (waits_same place s s refl)
+  step_waits_by files session call.Stop done h = of_step done (Ok (fine s)) h (waits_same place s s refl)
+  step_waits_by files session _ done h = absurd cc
 
 -- ---- what may hold bytes
 

@@ -6,6 +6,7 @@ use Rattle.vx_base.specs.declared.event.Event.TheVariants as event
 use Rattle.vx_base.specs.declared.reply.Reply.TheVariants as say
 use Rattle.vx_model.specs.Outcome.{Maybe}
 use Rattle.vx_model.specs.State.{State, Done, settled}
+use Rattle.vx_model.specs.Settling.{settle}
 use Rattle.vx_model.specs.Step.{step}
 use Rattle.vx_model.specs.Legal.{World, is_fault, state_after_step, with_released, after, after_all}
 
@@ -26,11 +27,12 @@ kept_unless P s t true old new = old
 kept_unless P s t false old new = new
 
 module _ (P : State → Type 0) (steps : (s : State) (place session : ℕ) (c : Call) (done : Done) → P s → step s place session c ≡ Some done → P done.state)
-    (releases : (s : State) (upto : ℕ) → P s → P (with_released s upto)) where
+    (settles : (s : State) (place ino : ℕ) → P s → P (settle s place ino)) (releases : (s : State) (upto : ℕ) → P s → P (with_released s upto)) where
   kept_event : (w : World) (e : Event) → P w.state → P (after w e).state
   kept_event w (event.Do at session line c reply) h =
       kept_unless P w.state (state_after_step w.state (step w.state w.next session c)) (is_fault reply) h
       (kept_after P w.state w.next session c (step w.state w.next session c) refl h (λ done is. steps w.state w.next session c done h is))
+  kept_event w (event.Settle at ino size) h = settles w.state w.next ino h
   kept_event w (event.Release at upto) h = releases w.state upto h
   kept_event w _ h = h
 

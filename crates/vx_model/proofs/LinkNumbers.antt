@@ -20,16 +20,20 @@ use Rattle.vx_model.specs.Removing.{is_last, unlinked, unlink, rmdir}
 use Rattle.vx_model.specs.Linking.{link}
 use Rattle.vx_model.specs.Moving.{Move, enter, cleared, rename}
 use Rattle.vx_model.specs.Naming.{with_mode, chmod}
+use Rattle.vx_model.specs.Settling.{settle}
 use Rattle.vx_model.specs.Step.{step}
 use Rattle.vx_model.specs.Legal.{opening, with_released, after_all}
 use Rattle.vx_model.specs.NameLaws.{meaning_in, lookup, names_in, name_count, link_number, HasLinks}
 use Rattle.vx_model.proofs.Unused.{unused_low, unused_free}
-use Rattle.vx_model.proofs.GivenUp.{step_waits}
+use Rattle.vx_model.proofs.StepWaits.{step_waits}
 use Rattle.vx_model.proofs.Histories.{settled_keeps, kept_all}
 use Rattle.vx_model.proofs.Replies.{stat_leaves, list_leaves, mount_leaves}
 use Rattle.vx_model.proofs.Lookups.{node_gone, node_stays}
 use Rattle.vx_model.proofs.Successes.{adds, Makes, makes, unlinks, removes_directory, Links, links, modes, Onto, nothing, itself, directory, file, renames}
 use Rattle.vx_model.proofs.NameChanges.{same_directory, named_directory, file_leaf, empty_leaf, not_leaf, removed_nodes, remove_stays, unlinked_touches, unlinked_left, drop_touches, entered, clears_nothing, clears_target, target_means}
+use Rattle.vx_model.proofs.FileStep.{file_step}
+use Rattle.vx_model.proofs.FileTelling.{told_settle}
+use Rattle.vx_model.proofs.FileNodes.{Alters, stays, sets, drops, file_alone, settled_units}
 use Rattle.vx_model.proofs.Counting.{one, one_same, empty_counts, no_names, Owes, takes, puts, Relinked, relinks, loses, gains}
 
 abbrev no_more : ℕ → ℕ
@@ -245,6 +249,24 @@ module _ (s : State) (o : Owes s.tree.nodes (128 * s.layout.units) no_more) wher
   directory_link : (mode ino : ℕ) → 3 ≤ ino → link_number ino (Some (new_directory mode)) ≡ 1
   directory_link mode ino from = ap (λ t. cond t 0 1) (false_from_ne_true (ino == root) (λ e. (let is : ino ≡ 2 = eqb-true ino root e in absurd (omega arith))))
 
+  -- ---- a call on a file
+
+  alters_owes : (new : Nodes) → Alters s.tree.nodes new → Owes new bound no_more
+  alters_owes new (stays same) = subst (λ (ns : Nodes). Owes ns bound no_more) (sym same) o
+  alters_owes new (sets ino f g there links is) =
+      subst (λ (ns : Nodes). Owes ns bound no_more) (sym is)
+      (relinks s.tree.nodes (map.insert s.tree.nodes ino (IsFile g)) bound ino no_more
+      (set_relinked s.tree.nodes bound ino (IsFile g) (o.low ino (IsFile f) there) (λ i. sym (ap (names_in i) there)))
+      (ap (link_number ino) (at_key s.tree.nodes ino (IsFile g)) ∙ links ∙ sym (ap (link_number ino) there)) o)
+  alters_owes new (drops ino f there none is) =
+      subst (λ (ns : Nodes). Owes ns bound no_more) (sym is)
+      (relinks s.tree.nodes (map.remove s.tree.nodes ino) bound ino no_more
+      (absent_relinked s.tree.nodes bound ino (λ i. ap (names_in i) there))
+      (ap (link_number ino) (node_gone s.tree.nodes ino) ∙ sym none ∙ sym (ap (link_number ino) there)) o)
+
+  file_owes : (place session : ℕ) (c : Call) (done : Done) → file_step s place session c ≡ Some done → Owes done.state.tree.nodes bound no_more
+  file_owes place session c done h = alters_owes done.state.tree.nodes (file_alone s place session c done h).nodes
+
   abbrev Kept : State → Type 0
   Kept new = Owes new.tree.nodes bound no_more
 
@@ -261,6 +283,12 @@ module _ (s : State) (o : Owes s.tree.nodes (128 * s.layout.units) no_more) wher
   step_owes place session (call.Chmod path mode) done h = settled_keeps s Kept (chmod s path mode) done o h (chmod_owes path mode done)
   step_owes place session (call.Stat path) done h = subst Kept (sym (stat_leaves s place session path done h)) o
   step_owes place session (call.List path) done h = subst Kept (sym (list_leaves s place session path done h)) o
+  step_owes place session (call.OpenFile handle path flag) done h = file_owes place session (call.OpenFile handle path flag) done h
+  step_owes place session (call.Close handle) done h = file_owes place session (call.Close handle) done h
+  step_owes place session (call.Read handle offset count) done h = file_owes place session (call.Read handle offset count) done h
+  step_owes place session (call.Write handle offset payload) done h = file_owes place session (call.Write handle offset payload) done h
+  step_owes place session (call.Truncate handle size) done h = file_owes place session (call.Truncate handle size) done h
+  step_owes place session (call.Fsync handle) done h = file_owes place session (call.Fsync handle) done h
   step_owes place session call.Sync done h = subst Kept (sym (mount_leaves s done h)) o
   step_owes place session call.Tick done h = subst Kept (sym (mount_leaves s done h)) o
   step_owes place session (call.After other lines) done h = subst Kept (sym (mount_leaves s done h)) o
@@ -274,6 +302,12 @@ step_links s place session c done is h =
 
 pub released_links : (s : State) (upto : ℕ) → HasLinks s → HasLinks (with_released s upto)
 released_links s upto is = record { low = is.low; links = is.links }
+
+pub settled_links : (s : State) (place ino : ℕ) → HasLinks s → HasLinks (settle s place ino)
+settled_links s place ino is =
+    let P : Nodes → ℕ → Type 0 = λ ns n. Owes ns (128 * n) no_more in
+    has_links (settle s place ino) (128 * s.layout.units) (ap (λ u. 128 * u) (sym (settled_units s place ino)))
+    (subst (λ (ns : Nodes). P ns s.layout.units) (sym (ap (λ (t : Tree). t.nodes) (told_settle s place ino))) (owes_none s is))
 
 -- ---- a new file system
 
@@ -320,4 +354,4 @@ module _ (log_blocks limit sectors : ℕ) where
 -- ---- histories
 
 pub history_links : (log_blocks limit sectors at : ℕ) (es : List Event) → HasLinks (after_all (opening at (fresh log_blocks limit sectors)) es).state
-history_links log_blocks limit sectors at es = kept_all HasLinks step_links released_links (opening at (fresh log_blocks limit sectors)) es (fresh_links log_blocks limit sectors)
+history_links log_blocks limit sectors at es = kept_all HasLinks step_links settled_links released_links (opening at (fresh log_blocks limit sectors)) es (fresh_links log_blocks limit sectors)

@@ -26,11 +26,14 @@ use Rattle.vx_model.specs.NameLaws.{meaning_in, lookup, IsRemoved, link_number, 
 use Rattle.vx_model.proofs.Unused.{unused_free}
 use Rattle.vx_model.proofs.Replies.{stat_leaves, list_leaves, mount_leaves}
 use Rattle.vx_model.proofs.Histories.{settled_keeps, kept_all}
-use Rattle.vx_model.proofs.Lookups.{cases_entry, IsNamed, set_same, walk_first, walk_append, walk_ends}
+use Rattle.vx_model.proofs.Lookups.{cases_entry, IsNamed, node_gone, node_stays, set_same, walk_first, walk_append, walk_ends}
 use Rattle.vx_model.proofs.Successes.{Makes, makes, Links, links, modes, Renames, renames}
 use Rattle.vx_model.proofs.NameChanges.{named_directory, IsLeaf, file_leaf, absent_leaf, set_touches, touches_same, removed_nodes, removed_unnamed, unlinked_removes, directory_removes, added_named, blank_file, blank_directory, entered, Clears, Clearing, clearing}
 use Rattle.vx_model.proofs.Counting.{one, one_same, edited_link}
-use Rattle.vx_model.proofs.LinkNumbers.{owes_none, remove_owes, step_links, released_links, fresh_links}
+use Rattle.vx_model.proofs.LinkNumbers.{owes_none, remove_owes, step_links, settled_links, released_links, fresh_links}
+use Rattle.vx_model.proofs.FileStep.{file_step}
+use Rattle.vx_model.proofs.FileTelling.{told_settle}
+use Rattle.vx_model.proofs.FileNodes.{Alters, stays, sets, drops, file_alone}
 use Rattle.vx_model.proofs.Walking.{last_of, walk_last, walk_push, longer_below, OneMore, no_loop_more, no_loop_less}
 
 -- ---- a directory has one name, and the root none
@@ -246,6 +249,24 @@ module _ (s : State) (is : HasLinks s) (none : HasNoLoops s.tree.nodes) where
           | inr same ↦ subst (λ (x : Done). HasNoLoops x.state.tree.nodes) (sym same.1) none
         ]
 
+  -- ---- a call on a file
+
+  dropped_means : (ino q y : ℕ) (x : FileName) → lookup (map.remove old ino) q x ≡ Some y → lookup old q x ≡ Some y
+  dropped_means ino q y x means = elim (cases_eq q ino) [
+    | inl e ↦ let c : None ≡ Some y = sym (ap (meaning_in x) (ap (map.get (map.remove old ino)) e ∙ node_gone old ino)) ∙ means in absurd cc
+    | inr ne ↦ sym (ap (meaning_in x) (node_stays old ino q ne)) ∙ means
+  ]
+
+  alters_loops : (new : Nodes) → Alters old new → HasNoLoops new
+  alters_loops new (stays same) = subst HasNoLoops (sym same) none
+  alters_loops new (sets ino f g there links is) =
+      let same = set_same old ino (IsFile g) (λ x. sym (ap (meaning_in x) there)) in
+      subst HasNoLoops (sym is) (no_loop_less old (map.insert old ino (IsFile g)) (λ q x y means. sym (same q x) ∙ means) none)
+  alters_loops new (drops ino f there links is) = subst HasNoLoops (sym is) (no_loop_less old (map.remove old ino) (λ q x y means. dropped_means ino q y x means) none)
+
+  file_loops : (place session : ℕ) (c : Call) (done : Done) → file_step s place session c ≡ Some done → HasNoLoops done.state.tree.nodes
+  file_loops place session c done h = alters_loops done.state.tree.nodes (file_alone s place session c done h).nodes
+
   abbrev Kept : State → Type 0
   Kept new = HasNoLoops new.tree.nodes
 
@@ -262,6 +283,12 @@ module _ (s : State) (is : HasLinks s) (none : HasNoLoops s.tree.nodes) where
   step_loops place session (call.Chmod path mode) done h = settled_keeps s Kept (chmod s path mode) done none h (chmod_loops path mode done)
   step_loops place session (call.Stat path) done h = subst Kept (sym (stat_leaves s place session path done h)) none
   step_loops place session (call.List path) done h = subst Kept (sym (list_leaves s place session path done h)) none
+  step_loops place session (call.OpenFile handle path flag) done h = file_loops place session (call.OpenFile handle path flag) done h
+  step_loops place session (call.Close handle) done h = file_loops place session (call.Close handle) done h
+  step_loops place session (call.Read handle offset count) done h = file_loops place session (call.Read handle offset count) done h
+  step_loops place session (call.Write handle offset payload) done h = file_loops place session (call.Write handle offset payload) done h
+  step_loops place session (call.Truncate handle size) done h = file_loops place session (call.Truncate handle size) done h
+  step_loops place session (call.Fsync handle) done h = file_loops place session (call.Fsync handle) done h
   step_loops place session call.Sync done h = subst Kept (sym (mount_leaves s done h)) none
   step_loops place session call.Tick done h = subst Kept (sym (mount_leaves s done h)) none
   step_loops place session (call.After other lines) done h = subst Kept (sym (mount_leaves s done h)) none
@@ -292,5 +319,6 @@ pub history_loops : (log_blocks limit sectors at : ℕ) (es : List Event) → Ha
 history_loops log_blocks limit sectors at es =
     (kept_all IsSound
     (λ s place session c done h is. (step_links s place session c done h.0 is, step_loops s h.0 h.1 place session c done is))
+    (λ s place ino h. (settled_links s place ino h.0, subst (λ (t : Tree). HasNoLoops t.nodes) (sym (told_settle s place ino)) h.1))
     (λ s upto h. (released_links s upto h.0, h.1))
     (opening at (fresh log_blocks limit sectors)) es (fresh_links log_blocks limit sectors, fresh_loops log_blocks limit sectors)).1

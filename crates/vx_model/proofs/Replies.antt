@@ -3,6 +3,8 @@ use Rattle.std.proofs.Common.{◌≡◌, ℕ, Bool, true, false, cond, List, Opt
 use Rattle.std.specs.Prelude.{◌==◌}
 use Rattle.vx_base.specs.declared.call.Call.{Call}
 use Rattle.vx_base.specs.declared.call.Call.TheVariants as call
+use Rattle.vx_base.specs.declared.call.Flag.{Flag}
+use Rattle.vx_base.specs.declared.call.Payload.{Payload}
 use Rattle.vx_base.specs.declared.refusal.Refusal.{Refusal}
 use Rattle.vx_base.specs.declared.reply.Reply.TheVariants as say
 use Rattle.vx_model.specs.Outcome.{Maybe}
@@ -13,6 +15,8 @@ use Rattle.vx_model.specs.Removing.{fine, unlink, rmdir}
 use Rattle.vx_model.specs.Linking.{link}
 use Rattle.vx_model.specs.Moving.{Move, replace_by, move_onto, rename}
 use Rattle.vx_model.specs.Naming.{stat_reply, list, stat, chmod}
+use Rattle.vx_model.specs.Opened.{open_path, close}
+use Rattle.vx_model.specs.Bytes.{read, write, truncate, fsync}
 use Rattle.vx_model.specs.Step.{is_for_mount, step}
 use Rattle.vx_model.proofs.Chains.{Always, bind_always, where_holds}
 
@@ -25,6 +29,12 @@ fine_answers s why h = absurd cc
 
 made_answers : (s : State) (ino : ℕ) → Answers (record { state = s; reply = say.Made ino })
 made_answers s ino why h = absurd cc
+
+got_answers : (s : State) (bytes : List ℕ) → Answers (record { state = s; reply = say.Got bytes })
+got_answers s bytes why h = absurd cc
+
+wrote_answers : (s : State) (count : ℕ) → Answers (record { state = s; reply = say.Wrote count })
+wrote_answers s count why h = absurd cc
 
 module _ (s : State) (place : ℕ) where
   replace_answers : (m : Move) (target : ℕ) (node : Node) → Always (replace_by s place m target node) Answers
@@ -79,6 +89,24 @@ module _ (s : State) (place : ℕ) where
   list_path_answers : (path : List ℕ) → Always (list s path) Answers
   list_path_answers path = search (bind_always, list_answers) depth 12
 
+  open_answers : (session handle : ℕ) (path : List ℕ) (flag : Flag) → Always (open_path s session handle path flag) Answers
+  open_answers session handle path flag = search (bind_always, where_holds, fine_answers) depth 16
+
+  close_answers : (session handle : ℕ) → Always (close s place session handle) Answers
+  close_answers session handle = search (bind_always, fine_answers) depth 12
+
+  read_answers : (session handle offset count : ℕ) → Always (read s session handle offset count) Answers
+  read_answers session handle offset count = search (bind_always, got_answers) depth 12
+
+  write_answers : (session handle offset : ℕ) (p : Payload) → Always (write s session handle offset p) Answers
+  write_answers session handle offset p = search (bind_always, where_holds, wrote_answers) depth 16
+
+  truncate_answers : (session handle size : ℕ) → Always (truncate s place session handle size) Answers
+  truncate_answers session handle size = search (bind_always, where_holds, fine_answers) depth 16
+
+  fsync_answers : (session handle : ℕ) → Always (fsync s session handle) Answers
+  fsync_answers session handle = search (bind_always, fine_answers) depth 12
+
   pub refused : (session : ℕ) (c : Call) (done : Done) (why : Refusal) → step s place session c ≡ Some done → done.reply ≡ say.Refused why → done.state ≡ s
   refused session (call.Create path mode) done why h r = of_settled done (create s path mode) why h r (create_answers path mode)
   refused session (call.Mkdir path mode) done why h r = of_settled done (mkdir s path mode) why h r (mkdir_answers path mode)
@@ -89,6 +117,12 @@ module _ (s : State) (place : ℕ) where
   refused session (call.Chmod path mode) done why h r = of_settled done (chmod s path mode) why h r (chmod_answers path mode)
   refused session (call.Stat path) done why h r = of_settled done (stat s path) why h r (stat_path_answers path)
   refused session (call.List path) done why h r = of_settled done (list s path) why h r (list_path_answers path)
+  refused session (call.OpenFile handle path flag) done why h r = of_settled done (open_path s session handle path flag) why h r (open_answers session handle path flag)
+  refused session (call.Close handle) done why h r = of_settled done (close s place session handle) why h r (close_answers session handle)
+  refused session (call.Read handle offset count) done why h r = of_settled done (read s session handle offset count) why h r (read_answers session handle offset count)
+  refused session (call.Write handle offset payload) done why h r = of_settled done (write s session handle offset payload) why h r (write_answers session handle offset payload)
+  refused session (call.Truncate handle size) done why h r = of_settled done (truncate s place session handle size) why h r (truncate_answers session handle size)
+  refused session (call.Fsync handle) done why h r = of_settled done (fsync s session handle) why h r (fsync_answers session handle)
   refused session call.Sync done why h r = of_settled done (Ok (fine s)) why h r (fine_answers s)
   refused session call.Tick done why h r = of_settled done (Ok (fine s)) why h r (fine_answers s)
   refused session (call.After other lines) done why h r = of_settled done (Ok (fine s)) why h r (fine_answers s)

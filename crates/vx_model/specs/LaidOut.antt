@@ -9,7 +9,6 @@ use Rattle.vx_layout.specs.Places.{is_data, sectors_of}
 use Rattle.vx_layout.specs.Dirs.{IsDir}
 use Rattle.vx_extents.specs.Extents.{Mapped}
 use Rattle.vx_space.specs.Space.{Space, no_space, page_blocks, maps_for, maps_needed, extents_in, most_extents}
-use Rattle.vx_space.specs.Placing.{is_set}
 use Rattle.vx_space.specs.Leaving.{lasts}
 use Rattle.vx_space.specs.Laws.{AreRising, IsPart}
 use Rattle.vx_space.specs.Uses.{uses}
@@ -17,6 +16,7 @@ use Rattle.vx_model.specs.Legal.{IfThere}
 use Rattle.vx_model.specs.Tree.{Node, File, Directory, IsFile, IsDirectory, Tree, HandleKey, Opened, Tunables, no_attrs, tree_of_nodes}
 use Rattle.vx_model.specs.Layout.{DirectoryBlock, Layout, volume, blocks_at, space_at, maps_at, block_numbers, owned, pages_from, settled_at}
 use Rattle.vx_model.specs.State.{State, directory_blocks}
+pub use Rattle.vx_model.specs.State.{most_bytes, is_unreserved}
 use Rattle.vx_model.specs.Walks.{root}
 use Rattle.vx_model.specs.Images.{among}
 use Rattle.vx_model.specs.Reads.{entries_from}
@@ -53,17 +53,9 @@ pub record HasNothing (l : Layout) (n : ℕ) : Type 0 where
   pub none : owned l n ≡ []
   pub space : space_at l n ≡ no_space
 
--- the most bytes that a file has
-abbrev pub most_bytes : ℕ
-most_bytes = 2 ^ 26
-
 -- a page that holds data begins below the file's size
 abbrev pub BeginsBelow : ℕ → Mapped → Type 0
 BeginsBelow size m = m.kind ≡ Data → 1024 * m.page < size
-
--- a file that keeps no reservation on the device
-abbrev pub is_unreserved : File → Bool
-is_unreserved f = is_set 8 f.attrs
 
 -- A file's pages, settled and present, its size on the device, and its map blocks: some may be more than it needs.
 pub record IsSpaceOf (x : Space) (maps : List ℕ) (f : File) : Type 0 where

@@ -13,6 +13,8 @@ use Rattle.vx_base.specs.declared.reply.Reply.{Reply}
 use Rattle.vx_base.specs.declared.reply.Reply.TheVariants as say
 use Rattle.vx_model.specs.Layout.{released}
 use Rattle.vx_model.specs.State.{State, Done}
+use Rattle.vx_model.specs.Walks.{file_at}
+use Rattle.vx_model.specs.Settling.{IsSizeOf, settle}
 use Rattle.vx_model.specs.Step.{step}
 
 -- a call that stands in the history and has no Ret yet
@@ -78,7 +80,7 @@ abbrev pub IfThere : {X : Type 0} → Option X → (X → Type 0) → Type 0
 IfThere None P = ⊥
 IfThere (Some x) P = P x
 
--- Lines have numbers from 1 on. A call of line 0 closes a handle in the unmount, and no handle is opened yet.
+-- Lines have numbers from 1 on. A call of line 0 closes a handle in the unmount, and no program opens one yet.
 pub record DoAllowed (w : World) (session line : ℕ) (c : Call) (reply : Reply) : Type 0 where
   pub numbered : 0 < line
   pub idle : is_idle w session ≡ true
@@ -110,6 +112,7 @@ at_of (event.Unmounted at) = at
 abbrev pub Comes : World → Event → Type 0
 Comes w (event.Do at session line c reply) = DoAllowed w session line c reply
 Comes w (event.Ret at place answer) = RetAllowed (map.get w.waiting place) answer
+Comes w (event.Settle at ino size) = IsSizeOf size (file_at w.state.tree.nodes ino)
 Comes w (event.Release at upto) = Unit {0}
 Comes w (event.Stopped at) = Unit {0}
 Comes w (event.Unmounted at) = map.len w.waiting ≡ 0
@@ -153,6 +156,7 @@ after w (event.Ret at place answer) = record w {
   waiting = map.remove w.waiting place;
   phase = phase_after w.phase (map.get w.waiting place) answer;
 }
+after w (event.Settle at ino size) = record w { at = at; next = w.next + 1; state = settle w.state w.next ino }
 after w (event.Release at upto) = record w { at = at; next = w.next + 1; state = with_released w.state upto }
 after w (event.Stopped at) = record w { at = at; next = w.next + 1; phase = stopped }
 after w (event.Unmounted at) = record w { at = at; next = w.next + 1; phase = unmounted }

@@ -13,6 +13,9 @@ pub mod Removing
 pub mod Linking
 pub mod Moving
 pub mod Naming
+pub mod Opened
+pub mod Bytes
+pub mod Settling
 pub mod Step
 pub mod Legal
 pub mod Images
@@ -24,6 +27,8 @@ pub mod Touching
 pub mod EditLaws
 pub mod NameLaws
 pub mod Waiting
+pub mod BytesLaws
+pub mod KeepLaws
 pub mod Shapes
 pub mod Settled
 pub mod Replays

@@ -1,16 +1,25 @@
 -- What a mount stands for at one moment, and what a call leaves.
-use Rattle.std.specs.Prelude.{ℕ, false, [], None, Ok, Err}
+use Rattle.std.specs.Prelude.{ℕ, Bool, ◌^◌, false, [], None, Ok, Err}
 use Rattle.vx_base.specs.declared.reply.Reply.{Reply}
 use Rattle.vx_base.specs.declared.reply.Reply.TheVariants as say
 use Rattle.vx_layout.specs.declared.superblock.Super.{Super}
 use Rattle.vx_space.specs.Space.{no_space}
+use Rattle.vx_space.specs.Placing.{is_set}
 use Rattle.vx_model.specs.Outcome.{Maybe}
-use Rattle.vx_model.specs.Tree.{Tree, empty_root}
+use Rattle.vx_model.specs.Tree.{File, Tree, empty_root}
 use Rattle.vx_model.specs.Layout.{Layout}
 
 -- the most blocks that a directory has
 abbrev pub directory_blocks : ℕ
 directory_blocks = 64
+
+-- the most bytes that a file has
+abbrev pub most_bytes : ℕ
+most_bytes = 2 ^ 26
+
+-- a file that keeps no reservation on the device
+abbrev pub is_unreserved : File → Bool
+is_unreserved f = is_set 8 f.attrs
 
 pub record State : Type 0 where
   pub tree : Tree

@@ -8,6 +8,8 @@ use Rattle.vx_model.specs.Removing.{fine, unlink, rmdir}
 use Rattle.vx_model.specs.Linking.{link}
 use Rattle.vx_model.specs.Moving.{rename}
 use Rattle.vx_model.specs.Naming.{list, stat, chmod}
+use Rattle.vx_model.specs.Opened.{open_path, close}
+use Rattle.vx_model.specs.Bytes.{read, write, truncate, fsync}
 
 -- what the event at this place of the history leaves and answers, where it is a session's call; none for a call that is not built yet
 abbrev pub step : State → ℕ → ℕ → Call → Option Done
@@ -20,6 +22,12 @@ step s place session (call.Rename old new) = Some (settled s (rename s place old
 step s place session (call.Chmod path mode) = Some (settled s (chmod s path mode))
 step s place session (call.Stat path) = Some (settled s (stat s path))
 step s place session (call.List path) = Some (settled s (list s path))
+step s place session (call.OpenFile handle path flag) = Some (settled s (open_path s session handle path flag))
+step s place session (call.Close handle) = Some (settled s (close s place session handle))
+step s place session (call.Read handle offset count) = Some (settled s (read s session handle offset count))
+step s place session (call.Write handle offset payload) = Some (settled s (write s session handle offset payload))
+step s place session (call.Truncate handle size) = Some (settled s (truncate s place session handle size))
+step s place session (call.Fsync handle) = Some (settled s (fsync s session handle))
 step s place session call.Sync = Some (fine s)
 step s place session call.Tick = Some (fine s)
 step s place session (call.After other lines) = Some (fine s)
@@ -34,19 +42,29 @@ is_for_mount (call.After session lines) = true
 is_for_mount call.Stop = true
 is_for_mount _ = false
 
--- whether the call is built
-abbrev pub has_step : Call → Bool
-has_step (call.Create path mode) = true
-has_step (call.Mkdir path mode) = true
-has_step (call.Unlink path) = true
-has_step (call.Rmdir path) = true
-has_step (call.Link old new) = true
-has_step (call.Rename old new) = true
-has_step (call.Chmod path mode) = true
-has_step (call.Stat path) = true
-has_step (call.List path) = true
-has_step call.Sync = true
-has_step call.Tick = true
-has_step (call.After session lines) = true
-has_step call.Stop = true
-has_step _ = false
+-- a call of names, or to the mount or the run: it opens no file and uses no handle
+abbrev pub is_of_names : Call → Bool
+is_of_names (call.Create path mode) = true
+is_of_names (call.Mkdir path mode) = true
+is_of_names (call.Unlink path) = true
+is_of_names (call.Rmdir path) = true
+is_of_names (call.Link old new) = true
+is_of_names (call.Rename old new) = true
+is_of_names (call.Chmod path mode) = true
+is_of_names (call.Stat path) = true
+is_of_names (call.List path) = true
+is_of_names call.Sync = true
+is_of_names call.Tick = true
+is_of_names (call.After session lines) = true
+is_of_names call.Stop = true
+is_of_names _ = false
+
+-- a call that opens a file, or uses one that is open
+abbrev pub is_on_file : Call → Bool
+is_on_file (call.OpenFile handle path flag) = true
+is_on_file (call.Close handle) = true
+is_on_file (call.Read handle offset count) = true
+is_on_file (call.Write handle offset payload) = true
+is_on_file (call.Truncate handle size) = true
+is_on_file (call.Fsync handle) = true
+is_on_file _ = false

@@ -6,6 +6,7 @@ use Rattle.vx_model.specs.Layout.{volume}
 use Rattle.vx_model.specs.LaidOut.{HoldsData, IsLaidOut, named}
 use Rattle.vx_model.specs.State.{State, Done}
 use Rattle.vx_model.specs.Step.{step}
+use Rattle.vx_model.specs.Settling.{settle}
 use Rattle.vx_model.specs.Legal.{with_released}
 use Rattle.vx_model.specs.Images.{among, is_metadata}
 use Rattle.vx_model.specs.Contents.{parsed_of}
@@ -23,6 +24,8 @@ pub record Waits (place : ℕ) (s new : State) : Type 0 where
 
 pub record WaitingLaws : Type 0 where
   pub step : (s : State) (place session : ℕ) (call : Call) (done : Done) → step s place session call ≡ Some done → Waits place s done.state
+  -- and so does a settle: the block of a page that was held is free at once
+  pub settled : (s : State) (place ino : ℕ) → Waits place s (settle s place ino)
   -- a block that may hold bytes after the call might before it, and so it is when what waited for earlier events is released in both
   pub stays : (s new : State) (place b : ℕ) → Waits place s new → HoldsData new.layout b → HoldsData s.layout b
   pub stays_released : (s new : State) (place b : ℕ) → Waits place s new → HoldsData (with_released new place).layout b → HoldsData (with_released s place).layout b

@@ -11,6 +11,7 @@ ghost use Rattle.vx_base.specs.declared.event.Event.{Event};
 ghost use Rattle.vx_model.specs.Legal.{opening, with_released, after_all};
 ghost use Rattle.vx_model.specs.State.{State, Done, fresh};
 ghost use Rattle.vx_model.specs.Removing.{fine};
+ghost use Rattle.vx_model.specs.Settling.{settle};
 ghost use Rattle.vx_model.specs.Step.{is_for_mount, step};
 ghost use Rattle.vx_model.specs.Tree.{File, Directory, IsFile, IsDirectory, new_file, new_directory};
 ghost use Rattle.vx_model.specs.NameLaws.{lookup, IsCreated, IsLinked, IsModeSet, IsRemoved, IsRenamed, GoesIntoItself, name_count, HasLinks, HasNoLoops};
@@ -94,6 +95,7 @@ pub fn nothing_goes_into_itself()
 pub fn link_numbers()
     ensures fresh { (log_blocks limit sectors : ℕ) → HasLinks (fresh log_blocks limit sectors) }
     ensures step { (s : State) (place session : ℕ) (c : Call) (done : Done) → HasLinks s → step s place session c ≡ Some done → HasLinks done.state }
+    ensures settled { (s : State) (place ino : ℕ) → HasLinks s → HasLinks (settle s place ino) }
     ensures released { (s : State) (upto : ℕ) → HasLinks s → HasLinks (with_released s upto) }
     ensures history { (log_blocks limit sectors at : ℕ) (events : List Event) → HasLinks (after_all (opening at (fresh log_blocks limit sectors)) events).state }
 {}

@@ -3,6 +3,7 @@
 
 pub mod allowed;
 pub mod edits;
+pub mod files;
 pub mod images;
 pub mod laws;
 pub mod reads;

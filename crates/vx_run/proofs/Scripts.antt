@@ -21,7 +21,7 @@ use Rattle.vx_grammar.specs.Forms.{name_of, IsScriptCall}
 use Rattle.vx_grammar.specs.Keywords.{is_built}
 use Rattle.vx_grammar.specs.Readings.{reading_of, most_bytes}
 use Rattle.vx_grammar.specs.Scripts.{IsScript, IsScriptIn, IsBadOrder, IsRefusedFor}
-use Rattle.vx_model.specs.Step.{has_step}
+use Rattle.vx_model.specs.Step.{is_of_names}
 use Rattle.vx_modes.specs.declared.options.Options.{Options}
 use Rattle.vx_modes.specs.declared.options.OptionRefusal.{OptionRefusal}
 use Rattle.vx_modes.specs.declared.options.OptionRefusal.TheVariants as options
@@ -140,7 +140,7 @@ unasked_words s faults words why same is = bad_words s faults why is (ap asked_o
 
 -- ---- the calls of a script
 
-built : (c : Call) → is_built (name_of c) ≡ true → has_step c ≡ true
+built : (c : Call) → is_built (name_of c) ≡ true → is_of_names c ≡ true
 built (call.Create path mode) h = refl
 built (call.Mkdir path mode) h = refl
 built (call.Unlink path) h = refl

@@ -5,7 +5,7 @@ use Rattle.vx_dev.specs.Moments.{Told}
 use Rattle.vx_dev.specs.Tape as dev
 use Rattle.vx_model.specs.LaidOut.{IsPlain}
 use Rattle.vx_model.specs.Legal.{World, unmounted, after_all}
-use Rattle.vx_model.specs.Step.{has_step}
+use Rattle.vx_model.specs.Step.{is_of_names}
 use Rattle.vx_txn.specs.Calls.{HasMode}
 use Rattle.vx_txn.specs.Metas.{IsStateOf}
 use Rattle.vx_txn.specs.declared.meta.Meta.{Meta}
@@ -54,7 +54,7 @@ pub record Keeps (o : World) (room : ℕ) (m : Mount) (d : dev.State) : Type 0 w
 
 -- calls that can be done
 abbrev pub IsBuilt : Call → Type 0
-IsBuilt c = (has_step c ≡ true) × HasMode c
+IsBuilt c = (is_of_names c ≡ true) × HasMode c
 
 -- ---- where the turns begin
 

@@ -6,7 +6,7 @@ use Rattle.vx_base.specs.declared.inode.Inode.{Inode}
 use Rattle.vx_base.specs.declared.inode.InodeValue.{InodeValue}
 use Rattle.vx_extents.specs.Extents.{stretches}
 use Rattle.vx_model.specs.Contents.{Held, value_of}
-use Rattle.vx_model.specs.Step.{has_step}
+use Rattle.vx_model.specs.Step.{is_of_names}
 use Rattle.vx_txn.specs.Directories.{DirectoryValue}
 
 -- the extents of the pages, and the map blocks
@@ -25,4 +25,4 @@ value_by inode directory = value_of (held_by directory inode.size) inode
 -- a call that is built and whose reply takes no memory
 abbrev pub has_short_step : Call → Bool
 has_short_step (call.List path) = false
-has_short_step c = has_step c
+has_short_step c = is_of_names c

@@ -11,7 +11,7 @@ ghost use Rattle.vx_model.specs.Legal.{IfThere, with_released};
 ghost use Rattle.vx_model.specs.Naming.{list};
 ghost use Rattle.vx_model.specs.State.{State, fresh};
 ghost use Rattle.vx_base.specs.declared.reply.Reply.TheVariants.{Fine};
-ghost use Rattle.vx_model.specs.Step.{has_step, is_for_mount, step};
+ghost use Rattle.vx_model.specs.Step.{is_of_names, is_for_mount, step};
 ghost use Rattle.vx_model.specs.Touching.{untouched};
 ghost use Rattle.vx_model.specs.Tree.{no_attrs};
 ghost use Rattle.vx_txn.specs.Calls.{HasMode, IsDone, IsSettled, most};
@@ -91,7 +91,7 @@ impl Meta {
         place: u64,
         touched: &mut Touched,
     ) -> Result<(Reply, Reply), AllocError>
-        requires built { has_step call.now ≡ true }
+        requires built { is_of_names call.now ≡ true }
         requires mode { HasMode call.now }
         requires sound { IsSound self.old }
         requires empty { touched.old ≡ untouched }

@@ -25,7 +25,7 @@ use Rattle.vx_model.specs.Removing.{fine, is_last, unlinked, unlink_file, unlink
 use Rattle.vx_model.specs.Linking.{most_links, link_in, link_at, link_end, link_file, link_inode, link_along, link}
 use Rattle.vx_model.specs.Moving.{is_below, Move, enter, cleared, replace_directory, replace_file, replace_by, move_onto, move_into, move_node, move_to, move_entry, move_ends, rename_along, rename}
 use Rattle.vx_model.specs.Naming.{with_mode, list_at, list_along, list, stat_at, stat_along, stat, chmod_at, chmod_along, chmod}
-use Rattle.vx_model.specs.Step.{step}
+use Rattle.vx_model.specs.Step.{is_of_names, step}
 use Rattle.vx_model.specs.NameLaws.{meaning_in, lookup, HasLinks}
 use Rattle.vx_model.specs.LaidOut.{HasNothing, IsPlain, IsPlainFile, IsClosed, IsLaidOut}
 use Rattle.vx_model.proofs.Chains.{need_ok}
@@ -309,18 +309,18 @@ module _ (laws : EditLaws) (closed : (t : Tree) (ino : ℕ) → is_open t ino �
   fine_whole : (done : Done) → Some (fine s) ≡ Some done → Leaves Plain (Unit {0}) done.state
   fine_whole done e = let same : fine s ≡ done = cc in subst (λ (y : Done). Leaves Plain (Unit {0}) y.state) same (leaves Plain (Unit {0}) s w)
 
-  pub step_leaves : (place session : ℕ) (c : Call) (done : Done) → step s place session c ≡ Some done → Leaves Plain (HasMode c) done.state
-  step_leaves place session (call.Create path mode) done h = settled_leaves (mode ≤ 4095) (create s path mode) done (create_whole path mode) h
-  step_leaves place session (call.Mkdir path mode) done h = settled_leaves (mode ≤ 4095) (mkdir s path mode) done (mkdir_whole path mode) h
-  step_leaves place session (call.Unlink path) done h = settled_whole (unlink s place path) done (unlink_whole place path) h
-  step_leaves place session (call.Rmdir path) done h = settled_whole (rmdir s place path) done (rmdir_whole place path) h
-  step_leaves place session (call.Link old new) done h = settled_whole (link s old new) done (link_whole old new) h
-  step_leaves place session (call.Rename old new) done h = settled_whole (rename s place old new) done (rename_whole place old new) h
-  step_leaves place session (call.Chmod path mode) done h = settled_leaves (mode ≤ 4095) (chmod s path mode) done (chmod_whole path mode) h
-  step_leaves place session (call.Stat path) done h = settled_whole (stat s path) done (stat_whole path) h
-  step_leaves place session (call.List path) done h = settled_whole (list s path) done (list_whole path) h
-  step_leaves place session call.Sync done h = fine_whole done h
-  step_leaves place session call.Tick done h = fine_whole done h
-  step_leaves place session (call.After other lines) done h = fine_whole done h
-  step_leaves place session call.Stop done h = fine_whole done h
-  step_leaves place session _ done h = absurd cc
+  pub step_leaves : (place session : ℕ) (c : Call) (done : Done) → is_of_names c ≡ true → step s place session c ≡ Some done → Leaves Plain (HasMode c) done.state
+  step_leaves place session (call.Create path mode) done names h = settled_leaves (mode ≤ 4095) (create s path mode) done (create_whole path mode) h
+  step_leaves place session (call.Mkdir path mode) done names h = settled_leaves (mode ≤ 4095) (mkdir s path mode) done (mkdir_whole path mode) h
+  step_leaves place session (call.Unlink path) done names h = settled_whole (unlink s place path) done (unlink_whole place path) h
+  step_leaves place session (call.Rmdir path) done names h = settled_whole (rmdir s place path) done (rmdir_whole place path) h
+  step_leaves place session (call.Link old new) done names h = settled_whole (link s old new) done (link_whole old new) h
+  step_leaves place session (call.Rename old new) done names h = settled_whole (rename s place old new) done (rename_whole place old new) h
+  step_leaves place session (call.Chmod path mode) done names h = settled_leaves (mode ≤ 4095) (chmod s path mode) done (chmod_whole path mode) h
+  step_leaves place session (call.Stat path) done names h = settled_whole (stat s path) done (stat_whole path) h
+  step_leaves place session (call.List path) done names h = settled_whole (list s path) done (list_whole path) h
+  step_leaves place session call.Sync done names h = fine_whole done h
+  step_leaves place session call.Tick done names h = fine_whole done h
+  step_leaves place session (call.After other lines) done names h = fine_whole done h
+  step_leaves place session call.Stop done names h = fine_whole done h
+  step_leaves place session _ done names h = absurd cc

@@ -14,7 +14,8 @@ use Rattle.vx_layout.specs.Supers.{IsSuper}
 use Rattle.vx_layout.specs.declared.superblock.Super.{Super}
 use Rattle.vx_model.specs.Tree.{Nodes, Node, new_directory}
 use Rattle.vx_model.specs.State.{State, Done, fresh_of}
-use Rattle.vx_model.specs.Step.{step}
+use Rattle.vx_model.specs.Settling.{settle}
+use Rattle.vx_model.specs.Step.{is_of_names, step}
 use Rattle.vx_model.specs.Legal.{World, is_fault, state_after_step, with_released, after, after_all}
 use Rattle.vx_model.specs.Layout.{volume}
 use Rattle.vx_model.specs.LaidOut.{IsLaidOut, IsPlain}
@@ -76,12 +77,13 @@ kept_unless : (P : State → Type 0) (s t : State) (b : Bool) → P s → P t �
 kept_unless P s t true old new = old
 kept_unless P s t false old new = new
 
-module _ (steps : (s : State) (place session : ℕ) (c : Call) (done : Done) → IsWellFormed s → HasMode c → step s place session c ≡ Some done → IsWellFormed done.state)
+module _ (steps : (s : State) (place session : ℕ) (c : Call) (done : Done) → IsWellFormed s → is_of_names c ≡ true → HasMode c → step s place session c ≡ Some done → IsWellFormed done.state)
     (releases : (s : State) (upto : ℕ) → IsWellFormed s → IsWellFormed (with_released s upto)) where
   kept_event : (w : World) (e : Event) → HasModes e → IsWellFormed w.state → IsWellFormed (after w e).state
   kept_event w (event.Do at session line c reply) modes h =
       kept_unless IsWellFormed w.state (state_after_step w.state (step w.state w.next session c)) (is_fault reply) h
-      (kept_after IsWellFormed w.state w.next session c (step w.state w.next session c) refl h (λ done is. steps w.state w.next session c done h modes is))
+      (kept_after IsWellFormed w.state w.next session c (step w.state w.next session c) refl h (λ done is. steps w.state w.next session c done h modes.0 modes.1 is))
+  kept_event w (event.Settle at ino size) modes h = absurd modes
   kept_event w (event.Release at upto) modes h = releases w.state upto h
   kept_event w _ modes h = h
 
@@ -101,17 +103,19 @@ laid_unless s t true old new laid = old
 laid_unless s t false old new laid = new laid
 
 module _ (steps : (s : State) (place session : ℕ) (c : Call) (done : Done) → IsConsistent s → IsLaidOut done.state → step s place session c ≡ Some done → IsConsistent done.state)
-    (releases : (s : State) (upto : ℕ) → IsConsistent s → IsConsistent (with_released s upto)) where
+    (settles : (s : State) (place ino : ℕ) → IsConsistent s → IsConsistent (settle s place ino)) (releases : (s : State) (upto : ℕ) → IsConsistent s → IsConsistent (with_released s upto)) where
   pub laid_event : (w : World) (e : Event) → IsConsistent w.state → IsLaidOut (after w e).state → IsConsistent (after w e).state
   laid_event w (event.Do at session line c reply) h laid =
       laid_unless w.state (state_after_step w.state (step w.state w.next session c)) (is_fault reply) h
       (λ there. laid_step w.state w.next session c (step w.state w.next session c) refl h there (λ done is held. steps w.state w.next session c done h held is)) laid
+  laid_event w (event.Settle at ino size) h laid = settles w.state w.next ino h
   laid_event w (event.Release at upto) h laid = releases w.state upto h
   laid_event w _ h laid = h
 
 -- ---- the volume stays
 
-module _ (same : (s : State) (place session : ℕ) (c : Call) (done : Done) → step s place session c ≡ Some done → volume done.state.layout ≡ volume s.layout) where
+module _ (same : (s : State) (place session : ℕ) (c : Call) (done : Done) → step s place session c ≡ Some done → volume done.state.layout ≡ volume s.layout)
+    (same_settled : (s : State) (place ino : ℕ) → volume (settle s place ino).layout ≡ volume s.layout) where
   abbrev Same : Volume → State → Type 0
   Same v s = volume s.layout ≡ v
 
@@ -119,6 +123,7 @@ module _ (same : (s : State) (place session : ℕ) (c : Call) (done : Done) → 
   volume_event w (event.Do at session line c reply) =
       kept_unless (Same (volume w.state.layout)) w.state (state_after_step w.state (step w.state w.next session c)) (is_fault reply) refl
       (kept_after (Same (volume w.state.layout)) w.state w.next session c (step w.state w.next session c) refl refl (λ done is. same w.state w.next session c done is))
+  volume_event w (event.Settle at ino size) = same_settled w.state w.next ino
   volume_event w (event.Release at upto) = refl
   volume_event w _ = refl
 

@@ -13,6 +13,7 @@ ghost use Rattle.vx_wellformed.specs.WellFormed.{WellFormedLaws};
 ghost use Rattle.vx_wellformed.specs.Images.{HistorySound, StateSound};
 
 use vx_model::edits::edit_laws;
+use vx_model::files::{bytes_laws, keep_laws};
 use vx_model::images::{log_says, sector_contents};
 use vx_model::laws::{link_numbers, loops};
 use vx_model::states::{claims, fresh_reads, handles, plain_states, state_says, unused_inodes};
@@ -35,6 +36,8 @@ pub fn well_formed_laws()
     link_numbers();
     loops();
     fresh_reads();
+    bytes_laws();
+    keep_laws();
 }
 
 /// An image that holds a consistent state passes the image check, strictly where each of its files has a name.

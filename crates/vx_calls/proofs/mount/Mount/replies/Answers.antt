@@ -46,7 +46,7 @@ returns-else-is_no_space-clause-at g c = λ o at used.
     let s = present o m.kernel in
     let ran = ran_of o d m at c.args.call.now c.in-Ok.reply c.apply.new.self c.apply.new.touched (step s (length m.kernel.history.items) 0 c.args.call.now) refl
     (subst (λ (n : ℕ). IfThere (step s n 0 c.args.call.now) (λ (done : Done). IsDone s done c.apply.new.self c.apply.new.touched c.in-Ok.reply)) (c.len-place.ensures ∙ m.kernel.history.ok.0) (c.in-Ok.ensures.done s 0 at.run.mounted_now.consistent.laid_out at.plain at.meta)) in
-    done_replied o d m at c.args.call.now c.in-Ok.reply c.apply.new.self c.apply.new.touched ran c.in-Ok.ensures.sound (c.apply.ensures.few, c.apply.ensures.units) c.requires.place
+    done_replied o d m at c.args.call.now c.in-Ok.reply c.apply.new.self c.apply.new.touched c.requires.built ran c.in-Ok.ensures.sound (c.apply.ensures.few, c.apply.ensures.units) c.requires.place
     (λ is. elim c.else-is_no_space.branch [
       | else-is_no_space-via-then-is_no_space+else-has_pending w ↦
           let short = short_of c.in-Ok.reply is in

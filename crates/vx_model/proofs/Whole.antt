@@ -9,11 +9,11 @@ use Rattle.vx_model.specs.Tree.{File, IsFile}
 use Rattle.vx_model.specs.Layout.{Layout, space_at, maps_at, pended}
 use Rattle.vx_model.specs.State.{State}
 use Rattle.vx_model.specs.LaidOut.{IsLaidOut, is_unreserved}
-use Rattle.vx_files.specs.Settling.{space_settled, settled_layout, settle_file, settle, HoldsNone}
-use Rattle.vx_files.proofs.Changing.{file_held, space_here, maps_here}
-use Rattle.vx_files.proofs.Pages.{fewer_maps}
-use Rattle.vx_files.proofs.Spaces.{lasting_fewer}
-use Rattle.vx_files.proofs.Successes.{file_found}
+use Rattle.vx_model.specs.Settling.{space_settled, settled_layout, settle_file, settle, HoldsNone}
+use Rattle.vx_model.proofs.Changing.{file_held, space_here, maps_here}
+use Rattle.vx_model.proofs.Pages.{fewer_maps}
+use Rattle.vx_model.proofs.Spaces.{lasting_fewer}
+use Rattle.vx_model.proofs.FileSuccesses.{file_found}
 
 abbrev IsWhole : State → ℕ → File → Type 0
 IsWhole s ino f = HoldsNone s.layout ino f × ((space_at s.layout ino).size ≡ length f.bytes)

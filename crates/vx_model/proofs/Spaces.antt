@@ -15,11 +15,11 @@ use Rattle.vx_space.specs.Leaving.{is_reserved, is_reserved_by, is_reserved_page
 use Rattle.vx_space.specs.Laws.{AreRising, IsPart, HasMaps, CloseLaws, SettleLaws}
 use Rattle.vx_model.specs.Tree.{File}
 use Rattle.vx_model.specs.LaidOut.{BeginsBelow, IsSpaceOf, is_unreserved, most_bytes}
-use Rattle.vx_files.specs.Opened.{pages_of, with_reserve}
-use Rattle.vx_files.specs.Bytes.{overwritten, first_page, page_count, cut_file}
-use Rattle.vx_files.proofs.Contents.{overwritten_long}
-use Rattle.vx_files.proofs.Filling.{IsFilling, HasMoreMaps, fill_good}
-use Rattle.vx_files.proofs.Pages.{rising_filter, all_filter, all_passing, all_weaker, part_but, fewer_extents, fewer_maps, most_maps}
+use Rattle.vx_model.specs.Opened.{pages_of, with_reserve}
+use Rattle.vx_model.specs.Bytes.{overwritten, first_page, page_count, cut_file}
+use Rattle.vx_model.proofs.Contents.{overwritten_long}
+use Rattle.vx_model.proofs.Filling.{IsFilling, HasMoreMaps, fill_good}
+use Rattle.vx_model.proofs.Pages.{rising_filter, all_filter, all_passing, all_weaker, part_but, fewer_extents, fewer_maps, most_maps}
 
 -- ---- pages past a size go
 

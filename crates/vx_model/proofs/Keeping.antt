@@ -21,17 +21,17 @@ use Rattle.vx_model.specs.Edits.{set_node, drop_node}
 use Rattle.vx_model.specs.EditLaws.{EditLaws}
 use Rattle.vx_model.specs.LaidOut.{IsSpaceOf, IsFileNode, IsClosed, AreAttrs, IsLaidOut, most_bytes}
 use Rattle.vx_model.specs.Handles.{key_of, is_open}
-use Rattle.vx_files.specs.Opened.{with_handles, pages_of, with_reserve, pages_gone, unreserved, last_closed, closed_by, open_path, close}
-use Rattle.vx_files.specs.Bytes.{payload_bytes, overwritten, resized, first_page, page_count, file_request, write_filling, read_file, read, write_file, write, cut_file, cut, truncate_file, truncate, fsync}
-use Rattle.vx_files.specs.Settling.{space_settled, settle_file, settle}
-use Rattle.vx_files.specs.Step.{file_step}
-use Rattle.vx_files.proofs.Changing.{file_held, file_changed, handles_changed, filled_once, less_once, not_root}
-use Rattle.vx_files.proofs.Contents.{resized_long}
-use Rattle.vx_files.proofs.Filling.{fill_longer}
-use Rattle.vx_files.proofs.Giving.{but_less, maps_less}
+use Rattle.vx_model.specs.Opened.{with_handles, pages_of, with_reserve, pages_gone, unreserved, last_closed, closed_by, open_path, close}
+use Rattle.vx_model.specs.Bytes.{payload_bytes, overwritten, resized, first_page, page_count, file_request, write_filling, read_file, read, write_file, write, cut_file, cut, truncate_file, truncate, fsync}
+use Rattle.vx_model.specs.Settling.{space_settled, settle_file, settle}
+use Rattle.vx_model.proofs.FileStep.{file_step}
+use Rattle.vx_model.proofs.Changing.{file_held, file_changed, handles_changed, filled_once, less_once, not_root}
+use Rattle.vx_model.proofs.Contents.{resized_long}
+use Rattle.vx_model.proofs.Filling.{fill_longer}
+use Rattle.vx_model.proofs.Giving.{but_less, maps_less}
 use Rattle.vx_model.proofs.Handles.{opened_here, opened_other, closed_here, closed_other, closed_is, key_cases}
-use Rattle.vx_files.proofs.Spaces.{cut_kept, grown_kept, trimmed_kept, unreserved_kept, settled_kept, write_filled, written_kept}
-use Rattle.vx_files.proofs.Successes.{answered, opens, goes_on, writes, truncates, fsyncs, file_ok, ok_is}
+use Rattle.vx_model.proofs.Spaces.{cut_kept, grown_kept, trimmed_kept, unreserved_kept, settled_kept, write_filled, written_kept}
+use Rattle.vx_model.proofs.FileSuccesses.{answered, opens, goes_on, writes, truncates, fsyncs, file_ok, ok_is}
 
 -- ---- attributes
 

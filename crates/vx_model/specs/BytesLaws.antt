@@ -12,9 +12,9 @@ use Rattle.vx_model.specs.State.{State, Done}
 use Rattle.vx_model.specs.Walks.{inode_of}
 use Rattle.vx_model.specs.LaidOut.{IsClosed, IsLaidOut}
 use Rattle.vx_model.specs.Handles.{key_of}
-use Rattle.vx_files.specs.Bytes.{payload_bytes}
-use Rattle.vx_files.specs.Settling.{HoldsNone, settle}
-use Rattle.vx_files.specs.Step.{file_step}
+use Rattle.vx_model.specs.Bytes.{payload_bytes}
+use Rattle.vx_model.specs.Settling.{HoldsNone, settle}
+use Rattle.vx_model.specs.Step.{step}
 
 -- ---- one file
 
@@ -82,17 +82,17 @@ pub record IsClosedNow (old new : Tree) (session handle ino : ℕ) (f : File) : 
   pub ticks : new.ticks ≡ old.ticks
 
 pub record BytesLaws : Type 0 where
-  pub read : (s : State) (place session handle offset count ino : ℕ) (f : File) (done : Done) → IsOpenOn s.tree session handle ino f → file_step s place session (call.Read handle offset count) ≡ Some done
+  pub read : (s : State) (place session handle offset count ino : ℕ) (f : File) (done : Done) → IsOpenOn s.tree session handle ino f → step s place session (call.Read handle offset count) ≡ Some done
       → (answer : List ℕ) × (done.reply ≡ say.Got answer) × IsRead offset count f.bytes answer × (done.state ≡ s)
-  pub write : (s : State) (place session handle offset count ino : ℕ) (p : Payload) (f : File) (done : Done) → IsOpenOn s.tree session handle ino f → file_step s place session (call.Write handle offset p) ≡ Some done
+  pub write : (s : State) (place session handle offset count ino : ℕ) (p : Payload) (f : File) (done : Done) → IsOpenOn s.tree session handle ino f → step s place session (call.Write handle offset p) ≡ Some done
       → done.reply ≡ say.Wrote count → (count ≡ payload_len p) × (is : File) × IsFileChange s.tree done.state.tree ino f is × (is.attrs ≡ f.attrs) × IsOverwritten offset (payload_bytes p) f.bytes is.bytes
-  pub truncate : (s : State) (place session handle size ino : ℕ) (f : File) (done : Done) → IsOpenOn s.tree session handle ino f → file_step s place session (call.Truncate handle size) ≡ Some done
+  pub truncate : (s : State) (place session handle size ino : ℕ) (f : File) (done : Done) → IsOpenOn s.tree session handle ino f → step s place session (call.Truncate handle size) ≡ Some done
       → done.reply ≡ say.Fine → (is : File) × IsFileChange s.tree done.state.tree ino f is × (is.attrs.reserve ≤ f.attrs.reserve) × IsResized size f.bytes is.bytes
-  pub fsync : (s : State) (place session handle : ℕ) (done : Done) → file_step s place session (call.Fsync handle) ≡ Some done → done.state ≡ s
+  pub fsync : (s : State) (place session handle : ℕ) (done : Done) → step s place session (call.Fsync handle) ≡ Some done → done.state ≡ s
   -- ---- handles
-  pub opened : (s : State) (place session handle : ℕ) (path : List ℕ) (flag : Flag) (done : Done) → file_step s place session (call.OpenFile handle path flag) ≡ Some done → done.reply ≡ say.Fine
+  pub opened : (s : State) (place session handle : ℕ) (path : List ℕ) (flag : Flag) (done : Done) → step s place session (call.OpenFile handle path flag) ≡ Some done → done.reply ≡ say.Fine
       → IsOpened s.tree done.state.tree session handle path
-  pub closed : (s : State) (place session handle ino : ℕ) (f : File) (done : Done) → IsOpenOn s.tree session handle ino f → file_step s place session (call.Close handle) ≡ Some done
+  pub closed : (s : State) (place session handle ino : ℕ) (f : File) (done : Done) → IsOpenOn s.tree session handle ino f → step s place session (call.Close handle) ≡ Some done
       → (done.reply ≡ say.Fine) × IsClosedNow s.tree done.state.tree session handle ino f
   -- ---- a settle is no call: names, attributes and bytes are as they were, and the device says all of the file then
   pub settled : (s : State) (place ino : ℕ) → (settle s place ino).tree ≡ s.tree

@@ -20,7 +20,7 @@ use Rattle.vx_space.specs.Placing.{Filling, Request, block_before, first_for, wi
 use Rattle.vx_space.specs.Laws.{AreRising, IsPart}
 use Rattle.vx_model.specs.LaidOut.{BeginsBelow}
 use Rattle.vx_model.proofs.Chains.{Always, then_always, always_ok, bind_ok, unless_ok, need_ok}
-use Rattle.vx_files.proofs.Pages.{rising_with, part_with, all_with, rising_used, part_used, all_used}
+use Rattle.vx_model.proofs.Pages.{rising_with, part_with, all_with, rising_used, part_used, all_used}
 
 -- ---- pages one by one
 

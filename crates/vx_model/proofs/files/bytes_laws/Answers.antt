@@ -1,6 +1,6 @@
-use Rattle.vx_files.proofs.Telling.{told_read, told_write, told_truncate, told_fsync, told_open, told_close, told_settle}
-use Rattle.vx_files.proofs.Whole.{settled_whole}
-use Rattle.vx_files.proofs.laws.bytes_laws.Goals as goal
+use Rattle.vx_model.proofs.FileTelling.{told_read, told_write, told_truncate, told_fsync, told_open, told_close, told_settle}
+use Rattle.vx_model.proofs.Whole.{settled_whole}
+use Rattle.vx_model.proofs.files.bytes_laws.Goals as goal
 
 pub returns : goal.returns
 returns c = record {

@@ -20,7 +20,7 @@ use Rattle.vx_model.specs.Reads.{entries_from}
 use Rattle.vx_model.specs.LaidOut.{Owns, IsOnceUsed, IsFileOf, IsSpaceOf, AreAttrs, IsNodeOf, IsHeld, IsDirectoryNode, IsFileNode, IsLaidOut, entries_of}
 use Rattle.vx_model.proofs.Owning.{grown_once}
 use Rattle.vx_model.proofs.Uses.{uses_append, is_among, among_uses}
-use Rattle.vx_files.specs.Opened.{with_handles}
+use Rattle.vx_model.specs.Opened.{with_handles}
 
 -- ---- what stands at an inode that does not change
 

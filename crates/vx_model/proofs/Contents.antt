@@ -5,8 +5,8 @@ use Rattle.std.proofs.lemmas.List.{get_or_append_left, get_or-append_right, get_
 use Rattle.vx_base.specs.declared.call.Payload.{Payload}
 use Rattle.vx_base.specs.declared.call.Payload.TheVariants as payload
 use Rattle.vx_base.specs.Fits.{payload_len}
-use Rattle.vx_files.specs.Bytes.{overwritten, resized, bytes_from, payload_bytes}
-use Rattle.vx_files.specs.BytesLaws.{IsRead, IsOverwritten, IsResized}
+use Rattle.vx_model.specs.Bytes.{overwritten, resized, bytes_from, payload_bytes}
+use Rattle.vx_model.specs.BytesLaws.{IsRead, IsOverwritten, IsResized}
 
 abbrev blank : ℕ → List ℕ
 blank n = replicate n 0

@@ -5,10 +5,9 @@ use Rattle.vx_space.specs.Leaving.{lasting, settled_space, kept_maps, surplus_ma
 use Rattle.vx_model.specs.Outcome.{Maybe}
 use Rattle.vx_model.specs.Tree.{File}
 use Rattle.vx_model.specs.Layout.{Layout, space_at, maps_at}
-use Rattle.vx_model.specs.State.{State}
+use Rattle.vx_model.specs.State.{State, is_unreserved}
 use Rattle.vx_model.specs.Walks.{file_at}
-use Rattle.vx_model.specs.LaidOut.{is_unreserved}
-use Rattle.vx_files.specs.Opened.{left_with}
+use Rattle.vx_model.specs.Opened.{left_with}
 
 -- the space that the device says then; a reserved page of a file that keeps no reservation stays held
 abbrev pub space_settled : Layout → ℕ → File → Space

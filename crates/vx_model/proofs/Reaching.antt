@@ -15,14 +15,14 @@ use Rattle.vx_model.specs.State.{State, Done, settled}
 use Rattle.vx_model.specs.Edits.{with_nodes, set_node, drop_node}
 use Rattle.vx_model.specs.LaidOut.{IsClosed}
 use Rattle.vx_model.specs.Handles.{key_of, is_open}
-use Rattle.vx_files.specs.Opened.{with_handles, pages_of, with_reserve, unreserved, last_closed, closed_by, open_path, close}
-use Rattle.vx_files.specs.Bytes.{payload_bytes, overwritten, resized, read_file, read, write_file, write, cut_file, cut, truncate_file, truncate, fsync}
-use Rattle.vx_files.specs.Settling.{settle}
-use Rattle.vx_files.specs.Step.{file_step}
-use Rattle.vx_files.specs.KeepLaws.{IsReached}
+use Rattle.vx_model.specs.Opened.{with_handles, pages_of, with_reserve, unreserved, last_closed, closed_by, open_path, close}
+use Rattle.vx_model.specs.Bytes.{payload_bytes, overwritten, resized, read_file, read, write_file, write, cut_file, cut, truncate_file, truncate, fsync}
+use Rattle.vx_model.specs.Settling.{settle}
+use Rattle.vx_model.proofs.FileStep.{file_step}
+use Rattle.vx_model.specs.KeepLaws.{IsReached}
 use Rattle.vx_model.proofs.Handles.{opened_other, closed_other, open_is, key_cases}
-use Rattle.vx_files.proofs.Successes.{answered, opens, goes_on, writes, truncates, fsyncs, ok_is}
-use Rattle.vx_files.proofs.Telling.{removed_key, removed_other, told_settle}
+use Rattle.vx_model.proofs.FileSuccesses.{answered, opens, goes_on, writes, truncates, fsyncs, ok_is}
+use Rattle.vx_model.proofs.FileTelling.{removed_key, removed_other, told_settle}
 
 -- the same, of a tree
 abbrev pub Reached : Tree → Type 0

@@ -21,13 +21,13 @@ use Rattle.vx_model.specs.Waiting.{IsNamed, Waits}
 use Rattle.vx_model.proofs.GivenUp.{drop_waits, waits_next, waits_same}
 use Rattle.vx_model.proofs.Numbers.{either, in_left, in_right}
 use Rattle.vx_model.specs.Handles.{key_of, is_open}
-use Rattle.vx_files.specs.Opened.{with_handles, pages_of, unreserved, closed_by, open_path, close}
-use Rattle.vx_files.specs.Bytes.{payload_bytes, resized, first_page, page_count, write_filling, file_request, file_filling, read_file, read, written, write_file, write, cut, truncate_file, truncate, fsync}
-use Rattle.vx_files.specs.Settling.{space_settled, settle_file, settle}
-use Rattle.vx_files.specs.Step.{file_step}
-use Rattle.vx_files.proofs.Changing.{changed, maps_here, elsewhere}
-use Rattle.vx_files.proofs.Filling.{fill_longer}
-use Rattle.vx_files.proofs.Successes.{answered, opens, goes_on, writes, truncates, fsyncs, ok_is}
+use Rattle.vx_model.specs.Opened.{with_handles, pages_of, unreserved, closed_by, open_path, close}
+use Rattle.vx_model.specs.Bytes.{payload_bytes, resized, first_page, page_count, write_filling, file_request, file_filling, read_file, read, written, write_file, write, cut, truncate_file, truncate, fsync}
+use Rattle.vx_model.specs.Settling.{space_settled, settle_file, settle}
+use Rattle.vx_model.proofs.FileStep.{file_step}
+use Rattle.vx_model.proofs.Changing.{changed, maps_here, elsewhere}
+use Rattle.vx_model.proofs.Filling.{fill_longer}
+use Rattle.vx_model.proofs.FileSuccesses.{answered, opens, goes_on, writes, truncates, fsyncs, ok_is}
 
 -- ---- one inode has other map blocks
 
@@ -119,12 +119,12 @@ answered_waits : (place : ℕ) (s : State) (m : Maybe Done) (done : Done) → ((
 answered_waits place s (Ok d) done next h = subst (λ (x : Done). Waits place s x.state) (answered s (Ok d) done h) (next d refl)
 answered_waits place s (Err why) done next h = subst (λ (x : Done). Waits place s x.state) (answered s (Err why) done h) (waits_same place s s refl)
 
-pub step_waits : (s : State) (place session : ℕ) (c : Call) (done : Done) → file_step s place session c ≡ Some done → Waits place s done.state
-step_waits s place session (call.OpenFile handle path flag) done h =
+pub file_waits : (s : State) (place session : ℕ) (c : Call) (done : Done) → file_step s place session c ≡ Some done → Waits place s done.state
+file_waits s place session (call.OpenFile handle path flag) done h =
     answered_waits place s (open_path s session handle path flag) done (λ d e.
     let o = opens s session handle path flag d e in
     subst (λ (x : Done). Waits place s x.state) (sym o.is) (waits_same place s _ refl)) h
-step_waits s place session (call.Close handle) done h =
+file_waits s place session (call.Close handle) done h =
     answered_waits place s (close s place session handle) done (λ d e.
     let left : State = with_handles s (map.remove s.tree.handles (key_of session handle)) in
     let goes = goes_on s session handle (λ ino f. Ok (closed_by left place ino f)) d e in
@@ -132,22 +132,22 @@ step_waits s place session (call.Close handle) done h =
     let f : File = goes.on.file in
     subst (λ (x : Done). Waits place s x.state) (sym (ok_is (closed_by left place ino f) d goes.is))
     (waits_next place s left (closed_by left place ino f).state (waits_same place s left refl) (last_waits place left ino f (is_open left.tree ino) (f.nlink == 0) (is_set 8 f.attrs) (is_set 16 f.attrs)))) h
-step_waits s place session (call.Read handle offset count) done h =
+file_waits s place session (call.Read handle offset count) done h =
     answered_waits place s (read s session handle offset count) done (λ d e.
     let goes = goes_on s session handle (λ ino f. read_file s offset count f) d e in
     subst (λ (x : Done). Waits place s x.state) (sym (ok_is _ d goes.is)) (waits_same place s s refl)) h
-step_waits s place session (call.Write handle offset payload) done h =
+file_waits s place session (call.Write handle offset payload) done h =
     answered_waits place s (write s session handle offset payload) done (λ d e.
     let goes = goes_on s session handle (λ ino f. write_file s ino offset (payload_bytes payload) f) d e in
     filled_waits place s goes.on.ino offset (payload_bytes payload) goes.on.file d goes.is) h
-step_waits s place session (call.Truncate handle size) done h =
+file_waits s place session (call.Truncate handle size) done h =
     answered_waits place s (truncate s place session handle size) done (λ d e.
     let goes = goes_on s session handle (λ ino f. truncate_file s place ino size f) d e in
     let t = truncates s place goes.on.ino size goes.on.file d goes.is in
     subst (λ (x : Done). Waits place s x.state) (sym t.is) (sized_waits place s goes.on.ino goes.on.file size (nat_lt size (length goes.on.file.bytes)))) h
-step_waits s place session (call.Fsync handle) done h =
+file_waits s place session (call.Fsync handle) done h =
     answered_waits place s (fsync s session handle) done (λ d e. subst (λ (x : Done). Waits place s x.state) (sym (fsyncs s session handle d e)) (waits_same place s s refl)) h
-step_waits s place session _ done h = absurd cc
+file_waits s place session _ done h = absurd cc
 
 pub settled_waits : (s : State) (place ino : ℕ) → Waits place s (settle s place ino)
 settled_waits s place ino = by (file_at s.tree.nodes ino)

@@ -20,14 +20,14 @@ use Rattle.vx_model.specs.Edits.{with_nodes, set_node, drop_node}
 use Rattle.vx_model.specs.Removing.{fine}
 use Rattle.vx_model.specs.LaidOut.{IsClosed}
 use Rattle.vx_model.specs.Handles.{key_of, is_open}
-use Rattle.vx_files.specs.Opened.{with_handles, pages_of, with_reserve, unreserved, last_closed, closed_by, close}
-use Rattle.vx_files.specs.Bytes.{payload_bytes, bytes_from, overwritten, resized, read, cut, read_file, write_file, write, cut_file, truncate_file, truncate, fsync}
-use Rattle.vx_files.specs.Settling.{settle_file, settle}
-use Rattle.vx_files.specs.Step.{file_step}
-use Rattle.vx_files.specs.BytesLaws.{IsOpenOn, IsFileChange, IsRead, IsOverwritten, IsResized, IsOpened, IsClosedNow}
-use Rattle.vx_files.proofs.Contents.{payload_size, read_is, overwritten_is, resized_is, cut_is}
+use Rattle.vx_model.specs.Opened.{with_handles, pages_of, with_reserve, unreserved, last_closed, closed_by, close}
+use Rattle.vx_model.specs.Bytes.{payload_bytes, bytes_from, overwritten, resized, read, cut, read_file, write_file, write, cut_file, truncate_file, truncate, fsync}
+use Rattle.vx_model.specs.Settling.{settle_file, settle}
+use Rattle.vx_model.proofs.FileStep.{file_step}
+use Rattle.vx_model.specs.BytesLaws.{IsOpenOn, IsFileChange, IsRead, IsOverwritten, IsResized, IsOpened, IsClosedNow}
+use Rattle.vx_model.proofs.Contents.{payload_size, read_is, overwritten_is, resized_is, cut_is}
 use Rattle.vx_model.proofs.Handles.{opened_here, opened_other, closed_here, closed_other, closed_is}
-use Rattle.vx_files.proofs.Successes.{answered, resumes, opens, writes, truncates, fsyncs}
+use Rattle.vx_model.proofs.FileSuccesses.{answered, resumes, opens, writes, truncates, fsyncs}
 
 -- ---- the reply tells that a call was not refused
 

@@ -14,8 +14,8 @@ use Rattle.vx_model.specs.Removing.{fine}
 use Rattle.vx_model.specs.LaidOut.{most_bytes}
 use Rattle.vx_model.proofs.Chains.{bind_ok, unless_ok, need_ok}
 use Rattle.vx_model.specs.Handles.{key_of}
-use Rattle.vx_files.specs.Opened.{with_handles, opened_at, most_open, open_file, open_inode, open_along, open_path}
-use Rattle.vx_files.specs.Bytes.{may_end_at, if_fits, first_page, page_count, write_filling, written, write_file, sized, truncate_file, fsync}
+use Rattle.vx_model.specs.Opened.{with_handles, opened_at, most_open, open_file, open_inode, open_along, open_path}
+use Rattle.vx_model.specs.Bytes.{may_end_at, if_fits, first_page, page_count, write_filling, written, write_file, sized, truncate_file, fsync}
 
 pub ok_is : {A : Type 0} (x y : A) → ◌≡◌ {A = Maybe A} (Ok x) (Ok y) → y ≡ x
 ok_is x y h = cc

@@ -9,12 +9,11 @@ use Rattle.vx_space.specs.Leaving.{cut_space, waiting_then}
 use Rattle.vx_model.specs.Outcome.{Maybe, unless, ◌>>=◌}
 use Rattle.vx_model.specs.Tree.{File, IsFile, Opened}
 use Rattle.vx_model.specs.Layout.{Layout, volume, space_at, maps_at, is_free, with_space, with_maps}
-use Rattle.vx_model.specs.State.{State, Done}
+use Rattle.vx_model.specs.State.{State, Done, most_bytes}
 use Rattle.vx_model.specs.Walks.{file_at}
 use Rattle.vx_model.specs.Edits.{set_node}
 use Rattle.vx_model.specs.Removing.{fine}
-use Rattle.vx_model.specs.LaidOut.{most_bytes}
-use Rattle.vx_files.specs.Opened.{opened_at, left_with, pages_of, with_reserve}
+use Rattle.vx_model.specs.Opened.{opened_at, left_with, pages_of, with_reserve}
 
 -- ---- lists of bytes
 
