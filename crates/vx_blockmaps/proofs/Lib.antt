@@ -1,0 +1,10 @@
+pub mod Blocks
+pub mod Fates
+pub mod PageLists
+pub mod Leaving
+pub mod Settling
+pub mod Calls
+pub mod GivingUp
+pub mod Writing
+pub mod Closing
+pub mod Elsewhere
